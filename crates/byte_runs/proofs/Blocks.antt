@@ -1,19 +1,36 @@
 -- What the test for a block's room says of the run there, and runs from the places that they pass.
-use Prim.Native.Nat.{ℕ, ◌+◌, ◌-◌, ◌≤◌}
+use Prim.Native.Nat.{ℕ, ◌+◌, ◌-◌, ◌≤◌, max}
 use native.Mathlib.Omega.{arith}
 use mathlib.Core.Path.{◌≡◌, refl, sym, ap, subst, ◌∙◌}
 use mathlib.Core.List.{List}
-use mathlib.Core.Bool.{Bool, true, false, not}
+use mathlib.Core.Bool.{Bool, true, false, not, ◌&&◌, ◌||◌}
 use lib.Dec.{leb}
 use lib.ListN.{length, drop}
 use borrow.Author.Tests.{leb-true, leb-false, le-leb}
 use Rattle.laws.specs.Texts.{span}
+use Rattle.laws.proofs.Choice.{by_bool, yes_no, no_yes}
 use Rattle.laws.proofs.Blocks.{block_short, block_on}
+use Rattle.laws.proofs.Runs.{span_end}
 use Rattle.byte_runs.specs.Runs.{block}
 
 pub not-not : (x y : Bool) → not x ≡ y → x ≡ not y
 not-not true y e = ap not e
 not-not false y e = ap not e
+
+-- a test more, by what fails it
+pub none_more : (x y p : Bool) → y ≡ not p → not (x || y) ≡ (not x && p)
+none_more true y p e = refl
+none_more false y true e = ap not e
+none_more false y false e = ap not e
+
+-- what does not end a run passes
+pub passes_on : (p : Bool) {r : Bool} → r ≡ not p → r ≡ false → p ≡ true
+passes_on true e f = refl
+passes_on false e f = yes_no (sym e ∙ f)
+
+pub passes_not : (p : Bool) {r : Bool} → r ≡ not p → r ≡ true → p ≡ false
+passes_not true e f = no_yes (sym e ∙ f)
+passes_not false e f = refl
 
 module _ (t : List ℕ) (at : ℕ) {r : Bool} (e : r ≡ leb (at + block) (length t)) where
   pub room : not r ≡ false → at + block ≤ length t
@@ -44,3 +61,12 @@ pub run_step : (f : ℕ → Bool) (t : List ℕ) (at n m : ℕ) → n ≤ at →
 run_step f t at n m h e d y =
     let l = leb-true m (span f (drop (at - n) t)) (sym d ∙ y) in
     run_both f t (at - n) at (at + n) (omega arith) (omega arith) (omega arith) (omega arith)
+
+-- a run that was followed from a place up to the text's end, or to the place itself where that is past the end
+pub end_max : (f : ℕ → Bool) (t : List ℕ) (at i : ℕ) → at ≤ i → (at ≤ length t → i ≤ length t) → length t ≤ i
+    → i + span f (drop i t) ≡ at + span f (drop at t) → max at (length t) ≡ at + span f (drop at t)
+end_max f t at i h k m e =
+    let past = span_end f t i m in
+    by_bool (leb at (length t))
+    (λ b. omega (arith, leb-true at (length t) b, k (leb-true at (length t) b), past))
+    (λ b. omega (arith, leb-false at (length t) b, span_end f t at (omega (arith, leb-false at (length t) b))))

@@ -1,4 +1,3 @@
 pub mod Blocks
-pub mod Marks
 pub mod Together
 pub mod Searched

@@ -1,7 +1,9 @@
-// Runs of bytes, tested a block at a time: where a byte stands, and where the run of plain or of blank characters of ASCII ends.
-ghost use Rattle.std.specs.Prelude.{◌≡◌, not, ◌&&◌, ◌+◌, ◌≤◌, eqb, leb, length, drop};
+// Runs of bytes of a class, tested a block at a time: where a byte stands, and where the run of plain or of blank characters of ASCII ends.
+ghost use Rattle.std.specs.Prelude.{◌≡◌, ◌+◌, ◌≤◌, ◌<◌, leb, length, drop};
 ghost use Rattle.laws.specs.Texts.{before, span};
-ghost use Rattle.byte_runs.specs.Runs.{other, plain, blank, block, half, quarter, PlainBefore, PlainTo};
+ghost use Rattle.byte_runs.specs.Runs.{apart, plain, blank, block, PlainBefore, PlainTo};
+
+use crate::classes::{Apart, Blank, ByteClass, Other, Plain};
 
 // How many bytes are tested at once.
 pub const BLOCK: usize = 16;
@@ -13,71 +15,84 @@ pub const QUARTER: usize = HALF / 2;
 // Below it a byte is a character of ASCII.
 pub const ASCII_END: u8 = 0x80;
 
-// Whether both hold.
-pub(crate) fn both(x: bool, y: bool) -> bool
-    ensures { result ≡ (x && y) }
+// Whether a text has n bytes at a place.
+fn has_room(t: &[u8], at: usize, n: usize) -> bool
+    ensures { result ≡ leb (at + n) (length t.now) }
 {
-    if x {
-        return y;
-    }
-    false
+    n <= t.len() && at <= t.len() - n
 }
 
 // Whether a text has a block at a place.
 pub fn has_block(t: &[u8], at: usize) -> bool
     ensures { result ≡ leb (at + block) (length t.now) }
 {
-    if t.len() < BLOCK {
-        return false;
-    }
-    at <= t.len() - BLOCK
+    has_room(t, at, BLOCK)
 }
 
-// Whether no b stands in the block at a place.
-fn other_block(t: &[u8], at: usize, b: u8) -> bool
-    ensures { result ≡ leb block (span (other b) (drop at t.now)) }
+// Whether n bytes at a place are of a class.
+#[inline(always)]
+fn all_of<C: ByteClass>(t: &[u8], at: usize, n: usize, class: C) -> bool
+    requires { at + n ≤ length t.now }
+    ensures { result ≡ leb n (span (C.passes class) (drop at t.now)) }
 {
-    if !has_block(t, at) {
-        return false;
+    let mut ended = false;
+    for j in 0..n {
+        ended |= class.ends(t[at + j]);
     }
-    let mut all = true;
-    let mut j: usize = 0;
-    while j < BLOCK {
-        all = both(all, t[at + j] != b);
-        j += 1;
+    !ended
+}
+
+// Whether the run of a class from a place on has n bytes, all tested at once.
+#[inline(always)]
+pub fn starts_run<C: ByteClass>(t: &[u8], at: usize, n: usize, class: C) -> bool
+    requires { 0 < n }
+    ensures { result ≡ leb n (span (C.passes class) (drop at t.now)) }
+{
+    has_room(t, at, n) && all_of(t, at, n, class)
+}
+
+// The place past the run of a class from a place on, byte by byte.
+pub fn bytes_end<C: ByteClass>(t: &[u8], from: usize, class: C) -> usize
+    ensures { result ≡ from + span (C.passes class) (drop from t.now) }
+{
+    for i in from..t.len() {
+        if class.ends(t[i]) {
+            return i;
+        }
     }
-    all
+    from.max(t.len())
+}
+
+// The same, by blocks.
+pub fn run_end<C: ByteClass>(t: &[u8], from: usize, class: C) -> usize
+    ensures { result ≡ from + span (C.passes class) (drop from t.now) }
+{
+    let mut i = from;
+    while starts_run(t, i, BLOCK, class) {
+        i += BLOCK;
+    }
+    bytes_end(t, i, class)
 }
 
 // Where the first b from a place on stands, or where the text ends.
 pub fn find(t: &[u8], from: usize, b: u8) -> usize
     ensures { result ≡ from + before b (drop from t.now) }
 {
-    let mut i = from;
-    while other_block(t, i, b) {
-        i += BLOCK;
-    }
-    while i < t.len() {
-        if t[i] == b {
-            return i;
-        }
-        i += 1;
-    }
-    i
+    run_end(t, from, Other(b))
 }
 
-// Whether a byte is a character of ASCII, and neither a nor b.
-fn is_plain(a: u8, b: u8, c: u8) -> bool
-    ensures { result ≡ plain a b c }
+// Where the first a or b from a place on stands, or where the text ends.
+pub fn apart_end(t: &[u8], from: usize, a: u8, b: u8) -> usize
+    ensures { result ≡ from + span (apart a b) (drop from t.now) }
 {
-    both(c < ASCII_END, both(c != a, c != b))
+    run_end(t, from, Apart(a, b))
 }
 
-// A truth as a number, so that the truths of a block are put together at once.
-fn mark(x: bool) -> u8
-    ensures { eqb result 0 ≡ not x }
+// The place past the run of ASCII's blanks from a place on.
+pub fn blank_end(t: &[u8], from: usize) -> usize
+    ensures { result ≡ from + span blank (drop from t.now) }
 {
-    x as u8
+    run_end(t, from, Blank)
 }
 
 // Whether n bytes at a place are plain.
@@ -85,50 +100,25 @@ pub fn all_plain(t: &[u8], at: usize, n: usize, a: u8, b: u8) -> bool
     requires { at + n ≤ length t.now }
     ensures { result ≡ leb n (span (plain a b) (drop at t.now)) }
 {
-    let mut ends: u8 = 0;
-    let mut j: usize = 0;
-    while j < n {
-        let c = t[at + j];
-        ends = ends | mark(ASCII_END <= c) | mark(c == a) | mark(c == b);
-        j += 1;
-    }
-    ends == 0
+    all_of(t, at, n, Plain(a, b))
 }
 
 // The place past the run of plain bytes from a place on, byte by byte.
 pub fn plain_bytes(t: &[u8], from: usize, a: u8, b: u8) -> usize
     ensures { result ≡ from + span (plain a b) (drop from t.now) }
 {
-    let mut i = from;
-    while i < t.len() {
-        if is_plain(a, b, t[i]) {
-            i += 1;
-        } else {
-            return i;
-        }
-    }
-    i
+    bytes_end(t, from, Plain(a, b))
 }
 
-// Past half a block at a place, if it is plain, else the place. It is tested together with the half before it, which is plain: so its bytes
+// Past n bytes at a place, if they are plain, else the place. They are tested together with the n before them, which are plain: so its bytes
 // have no test in common with the block's.
-fn plain_half(t: &[u8], at: usize, a: u8, b: u8) -> usize
-    requires { (at + half ≤ length t.now) × PlainBefore t.now a b at half }
-    ensures { PlainTo t.now a b at half result }
+#[inline(always)]
+fn plain_part(t: &[u8], at: usize, n: usize, a: u8, b: u8) -> usize
+    requires { (at + n ≤ length t.now) × PlainBefore t.now a b at n }
+    ensures { PlainTo t.now a b at n result }
 {
-    if all_plain(t, at - HALF, BLOCK, a, b) {
-        return at + HALF;
-    }
-    at
-}
-
-// The same of a quarter.
-fn plain_quarter(t: &[u8], at: usize, a: u8, b: u8) -> usize
-    requires { (at + quarter ≤ length t.now) × PlainBefore t.now a b at quarter }
-    ensures { PlainTo t.now a b at quarter result }
-{
-    if all_plain(t, at - QUARTER, HALF, a, b) {
-        return at + QUARTER;
+    if all_plain(t, at - n, 2 * n, a, b) {
+        return at + n;
     }
     at
 }
@@ -138,8 +128,8 @@ fn plain_rest(t: &[u8], at: usize, a: u8, b: u8) -> usize
     requires { (at + block ≤ length t.now) × PlainBefore t.now a b at block }
     ensures { result ≡ at + span (plain a b) (drop at t.now) }
 {
-    let i = plain_half(t, at, a, b);
-    let j = plain_quarter(t, i, a, b);
+    let i = plain_part(t, at, HALF, a, b);
+    let j = plain_part(t, i, QUARTER, a, b);
     plain_bytes(t, j, a, b)
 }
 
@@ -159,48 +149,4 @@ pub fn plain_end(t: &[u8], from: usize, a: u8, b: u8) -> usize
         }
     }
     plain_bytes(t, i, a, b)
-}
-
-// Whether a byte is a blank of ASCII.
-fn is_blank(c: u8) -> bool
-    ensures { result ≡ blank c }
-{
-    if c == b' ' {
-        return true;
-    }
-    both(b'\t' <= c, c <= b'\r')
-}
-
-// Whether the block at a place is blank.
-fn blank_block(t: &[u8], at: usize) -> bool
-    ensures { result ≡ leb block (span blank (drop at t.now)) }
-{
-    if !has_block(t, at) {
-        return false;
-    }
-    let mut all = true;
-    let mut j: usize = 0;
-    while j < BLOCK {
-        all = both(all, is_blank(t[at + j]));
-        j += 1;
-    }
-    all
-}
-
-// The place past the run of ASCII's blanks from a place on.
-pub fn blank_end(t: &[u8], from: usize) -> usize
-    ensures { result ≡ from + span blank (drop from t.now) }
-{
-    let mut i = from;
-    while blank_block(t, i) {
-        i += BLOCK;
-    }
-    while i < t.len() {
-        if is_blank(t[i]) {
-            i += 1;
-        } else {
-            return i;
-        }
-    }
-    i
 }

@@ -3,7 +3,7 @@ ghost use Rattle.std.specs.Prelude.{◌≡◌, true, ◌+◌, ◌≤◌, length}
 ghost use Rattle.byte_runs.specs.Runs.{block};
 ghost use Rattle.byte_runs.specs.Search.{Lone, LoneTo, Alike, Agree};
 
-use crate::runs::{BLOCK, both};
+use crate::runs::BLOCK;
 
 // Whether in the block at a place x stands nowhere with y `gap` bytes behind it.
 fn lone_block(t: &[u8], at: usize, gap: usize, x: u8, y: u8) -> bool
@@ -12,10 +12,8 @@ fn lone_block(t: &[u8], at: usize, gap: usize, x: u8, y: u8) -> bool
 {
     let behind = at + gap;
     let mut all = true;
-    let mut j: usize = 0;
-    while j < BLOCK {
-        all = both(all, !both(t[at + j] == x, t[behind + j] == y));
-        j += 1;
+    for j in 0..BLOCK {
+        all &= !((t[at + j] == x) & (t[behind + j] == y));
     }
     all
 }
@@ -26,14 +24,12 @@ fn pair_bytes(t: &[u8], from: usize, gap: usize, x: u8, y: u8) -> usize
     ensures { LoneTo t.now gap x y from result }
 {
     let end = t.len() - gap;
-    let mut i = from;
-    while i < end {
-        if both(t[i] == x, t[i + gap] == y) {
+    for i in from..end {
+        if t[i] == x && t[i + gap] == y {
             return i;
         }
-        i += 1;
     }
-    i
+    end
 }
 
 // Where, from a place on, x stands with y `gap` bytes behind it; where there is none, the first place for which y would stand past the text.
@@ -42,16 +38,11 @@ pub fn find_pair(t: &[u8], from: usize, gap: usize, x: u8, y: u8) -> usize
     ensures { LoneTo t.now gap x y from result }
 {
     let end = t.len() - gap;
-    if from < end {
-        if both(t[from] == x, t[from + gap] == y) {
-            return from;
-        }
+    if from < end && t[from] == x && t[from + gap] == y {
+        return from;
     }
     let mut i = from;
-    while BLOCK <= end - i {
-        if !lone_block(t, i, gap, x, y) {
-            return pair_bytes(t, i, gap, x, y);
-        }
+    while BLOCK <= end - i && lone_block(t, i, gap, x, y) {
         i += BLOCK;
     }
     pair_bytes(t, i, gap, x, y)
@@ -63,10 +54,8 @@ fn same_block(t: &[u8], a: usize, b: usize) -> bool
     ensures { result ≡ true → Alike t.now a b block }
 {
     let mut all = true;
-    let mut j: usize = 0;
-    while j < BLOCK {
-        all = both(all, t[a + j] == t[b + j]);
-        j += 1;
+    for j in 0..BLOCK {
+        all &= t[a + j] == t[b + j];
     }
     all
 }
@@ -76,14 +65,12 @@ fn agreeing_bytes(t: &[u8], a: usize, b: usize, n: usize, known: usize) -> usize
     requires { (a + n ≤ length t.now) × (b + n ≤ length t.now) × (known ≤ n) × Alike t.now a b known }
     ensures { Agree t.now a b n result }
 {
-    let mut j = known;
-    while j < n {
+    for j in known..n {
         if t[a + j] != t[b + j] {
             return j;
         }
-        j += 1;
     }
-    j
+    n
 }
 
 // How many of the n bytes at two places agree, up to the first that does not.
@@ -92,10 +79,7 @@ pub fn agreeing(t: &[u8], a: usize, b: usize, n: usize) -> usize
     ensures { Agree t.now a b n result }
 {
     let mut j: usize = 0;
-    while BLOCK <= n - j {
-        if !same_block(t, a + j, b + j) {
-            return agreeing_bytes(t, a, b, n, j);
-        }
+    while BLOCK <= n - j && same_block(t, a + j, b + j) {
         j += BLOCK;
     }
     agreeing_bytes(t, a, b, n, j)

@@ -1,18 +1,17 @@
--- Many bytes tested at once: their `|` is ASCII just if each of them is. And a run of ASCII is passed a byte a character.
+-- A run of ASCII: which bytes it has, and that it is passed a byte a character.
 use Prim.Native.Nat.{ℕ, suc, ◌+◌, ◌≤◌, ◌<◌}
 use native.Mathlib.Omega.{arith}
 use native.Mathlib.Nat.{add-zero}
 use mathlib.Core.Path.{◌≡◌, ap, sym, ◌∙◌}
 use mathlib.Core.List.{List, [], ◌∷◌}
-use mathlib.Core.Bool.{Bool, true, false, ◌&&◌}
-use lib.Bits.{bit_or, or_add_and, and_le_l, and_le_r, or_lt}
-use lib.Dec.{ltb, leb}
-use lib.ListN.{length, get_or, drop}
+use mathlib.Core.Bool.{Bool, true, false, not}
+use lib.Dec.{leb}
+use lib.ListN.{drop}
 use lib.Seq.{drop-drop}
-use borrow.Author.Tests.{lt-ltb, le-ltb, ltb-true, ltb-false}
+use borrow.Author.Tests.{leb-true, leb-false}
 use Rattle.laws.specs.Texts.{span}
 use Rattle.laws.proofs.Choice.{by_bool, within_is}
-use Rattle.laws.proofs.Blocks.{block_next, block_on}
+use Rattle.laws.proofs.Blocks.{block_on}
 use Rattle.chars.specs.Utf8.{ascii, sequences, verdict}
 use Rattle.chars.specs.Wide.{Passed}
 use Rattle.chars.proofs.Table.{within_in, within_above}
@@ -27,26 +26,11 @@ ascii_yes b h = within_in 0x00 0x7F b (omega arith) (omega arith)
 pub ascii_no : (b : ℕ) → 0x80 ≤ b → ascii b ≡ false
 ascii_no b h = within_above 0x00 0x7F b (omega arith)
 
-ascii-ltb : (b : ℕ) → ascii b ≡ ltb b 0x80
-ascii-ltb b =
-    by_bool (ltb b 0x80)
-    (λ e. ascii_yes b (ltb-true b 0x80 e) ∙ sym e)
-    (λ e. ascii_no b (ltb-false b 0x80 e) ∙ sym e)
-
-or_ascii : (x b : ℕ) → ltb (bit_or x b) 0x80 ≡ (ltb x 0x80 && ltb b 0x80)
-or_ascii x b =
-    by_bool (ltb x 0x80)
-    (λ e. by_bool (ltb b 0x80)
-    (λ f. rw (e, f) (lt-ltb (bit_or x b) 0x80 (or_lt 7 x b (ltb-true x 0x80 e) (ltb-true b 0x80 f))))
-    (λ f. rw (e, f) (le-ltb (bit_or x b) 0x80 (omega (arith, ltb-false b 0x80 f, or_add_and x b, and_le_l x b)))))
-    (λ e. rw e (le-ltb (bit_or x b) 0x80 (omega (arith, ltb-false x 0x80 e, or_add_and x b, and_le_r x b))))
-
--- ---- a block of ASCII, and one byte more
-
-pub ascii_next : (s : List ℕ) (at j x : ℕ) → at + j < length s → ltb x 0x80 ≡ leb j (span ascii (drop at s))
-    → ltb (bit_or x (get_or s (at + j) 0)) 0x80 ≡ leb (j + 1) (span ascii (drop at s))
-ascii_next s at j x h e =
-    or_ascii x (get_or s (at + j) 0) ∙ rw (← (ascii-ltb (get_or s (at + j) 0))) (block_next ascii s at j (ltb x 0x80) h e)
+pub ascii_ends : (b : ℕ) → leb 0x80 b ≡ not (ascii b)
+ascii_ends b =
+    by_bool (leb 0x80 b)
+    (λ e. rw (ascii_no b (leb-true 0x80 b e)) e)
+    (λ e. rw (ascii_yes b (leb-false 0x80 b e)) e)
 
 -- ---- a run of ASCII has no bad sequence
 

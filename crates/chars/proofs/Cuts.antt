@@ -1,4 +1,5 @@
 -- A good text cut at a place that lies in no character: both parts are good.
+use Rattle.std.proofs.Common.{None}
 use Prim.Native.Nat.{ℕ, zero, suc, ◌+◌, ◌-◌, ◌<◌}
 use native.Mathlib.Omega.{arith}
 use mathlib.Core.Path.{◌≡◌, refl, sym, ap, ◌∙◌, subst}
@@ -10,7 +11,6 @@ use lib.Seq.{take-nil, drop-nil, take-append-add, drop-append-add, get_or-append
 use borrow.Author.Tests.{leb-true, leb-false, ltb-true, ltb-false, lt-ltb}
 use Rattle.laws.specs.Quoted.{within}
 use Rattle.laws.proofs.Choice.{by_bool, yes_no}
-use Rattle.chars.specs.declared.Utf8.TheVariants.{Good}
 use Rattle.chars.specs.Utf8.{first_bad, chars}
 use Rattle.chars.specs.Encode.{utf8, width, bytes_of}
 use Rattle.chars.proofs.Table.{within_in, within_below}
@@ -87,7 +87,7 @@ cut_at (c ∷ cs) h (suc n) e = by_bool (leb (width c) (suc n))
         ∙ tail_at p.later (bytes_of cs) p.tails n (omega (arith, ap length p.shape)) in
         yes_no (sym z ∙ e)
 
-pub good_cut : (s : List ℕ) → first_bad s ≡ Good → (n : ℕ) → within 0x80 0xBF (get_or s n 0) ≡ false → (first_bad (take n s) ≡ Good) × (first_bad (drop n s) ≡ Good)
+pub good_cut : (s : List ℕ) → first_bad s ≡ None → (n : ℕ) → within 0x80 0xBF (get_or s n 0) ≡ false → (first_bad (take n s) ≡ None) × (first_bad (drop n s) ≡ None)
 good_cut s g n e =
     let b : bytes_of (chars s) ≡ s = good_bytes_lem s g in
     let k : Cut s n = subst (λ (l : List ℕ). Cut l n) b (cut_at (chars s) (good_scalars s g) n (ap (λ (l : List ℕ). within 0x80 0xBF (get_or l n 0)) b ∙ e)) in (
@@ -97,8 +97,8 @@ good_cut s g n e =
 
 -- ---- past a character of ASCII
 
-module _ (s : List ℕ) (at : ℕ) (g : first_bad s ≡ Good) (h : at < length s) (small : get_or s at 0 < 0x80) where
-  from_here : first_bad (drop at s) ≡ Good
+module _ (s : List ℕ) (at : ℕ) (g : first_bad s ≡ None) (h : at < length s) (small : get_or s at 0 < 0x80) where
+  from_here : first_bad (drop at s) ≡ None
   from_here = (good_cut s g at (within_below 0x80 0xBF (get_or s at 0) small)).1
 
   reads_here : chars (drop at s) ≡ get_or s at 0 ∷ chars (drop 1 (drop at s))
@@ -108,7 +108,7 @@ module _ (s : List ℕ) (at : ℕ) (g : first_bad s ≡ Good) (h : at < length s
   unfolding width
   one_wide = rw (lt-ltb (get_or s at 0) 0x80 small)
 
-  pub good_past : first_bad (drop (at + 1) s) ≡ Good
+  pub good_past : first_bad (drop (at + 1) s) ≡ None
   good_past =
       let b = get_or s at 0 in
       let cs = chars (drop 1 (drop at s)) in

@@ -1,5 +1,6 @@
 -- A whole text: its first bad sequence is known at the first byte that shows it. With the text up to and including that byte, no text
 -- that goes on from there is UTF-8; without that byte, some text is.
+use Rattle.std.proofs.Common.{None, Some}
 use Prim.Native.Nat.{ℕ, zero, suc, ◌+◌, ◌-◌, ◌≤◌}
 use native.Mathlib.Omega.{arith}
 use mathlib.Core.Path.{◌≡◌, refl, ap, sym, subst, ◌∙◌}
@@ -8,8 +9,7 @@ use lib.ListN.{length}
 use lib.Seq.{drop-length}
 use Rattle.chars.specs.declared.Step.{Step}
 use Rattle.chars.specs.declared.Step.TheVariants as steps
-use Rattle.chars.specs.declared.Utf8.TheVariants as verdicts
-use Rattle.chars.specs.Utf8.{first, Front, char, bad, cut, none, rest, after, front, Sequence, read, broken, short, onward, sequences, verdict, first_bad}
+use Rattle.chars.specs.Utf8.{first, Front, char, bad, cut, none, after, front, Sequence, read, broken, short, onward, sequences, verdict, first_bad}
 use Rattle.chars.specs.Machine.{start, run}
 use Rattle.chars.proofs.Sequences.{Ends, wants, after_ends, sequences-char, sequences-bad}
 use Rattle.chars.proofs.Run.{run-sequences}
@@ -30,9 +30,9 @@ record Shows (skip at : ℕ) (s : List ℕ) (f t : ℕ) : Type 0 where
   pub text : s ≡ before ++ byte ∷ after
   pub place : t ≡ at + length before + 1
   pub passed : skip ≤ length before
-  pub with : (q : List ℕ) → verdict (sequences skip at (before ++ byte ∷ q)) ≡ verdicts.Bad f
+  pub with : (q : List ℕ) → verdict (sequences skip at (before ++ byte ∷ q)) ≡ Some f
   pub rest : List ℕ
-  pub without : verdict (sequences skip at (before ++ rest)) ≡ verdicts.Good
+  pub without : verdict (sequences skip at (before ++ rest)) ≡ None
 
 -- a byte that is to pass
 passes : (k at b : ℕ) (s : List ℕ) (f t : ℕ) → Shows k (at + 1) s f t → Shows (suc k) at (b ∷ s) f t
@@ -82,7 +82,7 @@ reads_one at b s c n f t e r =
     k = sym (ap (λ (l : List ℕ). front (b ∷ l)) r.text) ∙ e
 
 -- a text that is one character is good
-one_good : (at : ℕ) (l : List ℕ) (c : ℕ) → front l ≡ char c (length l) → verdict (sequences 0 at l) ≡ verdicts.Good
+one_good : (at : ℕ) (l : List ℕ) (c : ℕ) → front l ≡ char c (length l) → verdict (sequences 0 at l) ≡ None
 unfolding sequences
 one_good at l c e = ap verdict (sequences-char at l c (length l) e) ∙ ap (λ (m : List ℕ). verdict (sequences 0 (at + length l) m)) (drop-length l)
 
@@ -128,10 +128,10 @@ pub record FirstShown (s : List ℕ) (f t : ℕ) : Type 0 where
   pub text : s ≡ before ++ byte ∷ after
   pub place : t ≡ length before + 1
   -- with that byte, whatever follows it, the text is bad, and at the same place
-  pub with : (q : List ℕ) → first_bad (before ++ byte ∷ q) ≡ verdicts.Bad f
+  pub with : (q : List ℕ) → first_bad (before ++ byte ∷ q) ≡ Some f
   -- without it, the text can still become good
   pub rest : List ℕ
-  pub without : first_bad (before ++ rest) ≡ verdicts.Good
+  pub without : first_bad (before ++ rest) ≡ None
 
 pub first_shown : (s : List ℕ) (f t : ℕ) → Breaks f t (sequences 0 0 s) → FirstShown s f t
 unfolding first_bad

@@ -1,5 +1,6 @@
 -- Good UTF-8 and lists of characters are one thing: a good text is the bytes of its characters, and the bytes of characters are a good
 -- text that has just them. So what holds of characters carries over to bytes.
+use Rattle.std.proofs.Common.{None, Some}
 use Prim.Native.Nat.{ℕ, zero, suc, ◌+◌, ◌≤◌}
 use native.Mathlib.Omega.{arith}
 use mathlib.Core.Path.{◌≡◌, refl, sym, ap, subst, ◌∙◌}
@@ -8,7 +9,6 @@ use mathlib.Core.Bool.{true}
 use lib.ListN.{length, drop, length-drop, take-append-drop}
 use lib.Seq.{drop_at}
 use Rattle.laws.proofs.Choice.{impossible}
-use Rattle.chars.specs.declared.Utf8.TheVariants as verdicts
 use Rattle.chars.specs.Utf8.{Front, char, bad, cut, none, front, sequences, verdict, first_bad, chars}
 use Rattle.chars.specs.Encode.{is_scalar, utf8, width, bytes_of}
 use Rattle.chars.proofs.Sequences.{char_some, not_none, sequences-char, sequences-bad, sequences-cut}
@@ -36,13 +36,13 @@ unfolding bytes_of
 cons_good l c n e w g = rw (chars-char l c n e) ((rw (g.0, ← w.0) (take-append-drop n l)), (w.1, g.1))
 
 -- by the count of the bytes that are left
-on : (n : ℕ) (l : List ℕ) (at : ℕ) → length l ≤ n → verdict (sequences 0 at l) ≡ verdicts.Good → GoodText l
+on : (n : ℕ) (l : List ℕ) (at : ℕ) → length l ≤ n → verdict (sequences 0 at l) ≡ None → GoodText l
 on zero [] at h g = empty_good
 on zero (b ∷ l) at h g = absurd (omega arith)
 on (suc n) l at h g = turn l (λ m k a v. on n m k a v) h g
   where
-    turn : (l : List ℕ) → ((m : List ℕ) (k : ℕ) → length m ≤ n → verdict (sequences 0 k m) ≡ verdicts.Good → GoodText m)
-        → length l ≤ suc n → verdict (sequences 0 at l) ≡ verdicts.Good → GoodText l
+    turn : (l : List ℕ) → ((m : List ℕ) (k : ℕ) → length m ≤ n → verdict (sequences 0 k m) ≡ None → GoodText m)
+        → length l ≤ suc n → verdict (sequences 0 at l) ≡ None → GoodText l
     turn [] rec h g = empty_good
     turn (b ∷ l) rec h g = go (front (b ∷ l)) refl
       where
@@ -52,19 +52,19 @@ on (suc n) l at h g = turn l (λ m k a v. on n m k a v) h g
             cons_good (b ∷ l) c m f w
             (rec (drop m (b ∷ l)) (at + m) (omega (arith, length-drop m (b ∷ l), char_some (b ∷ l) c m f)) (sym (ap verdict (sequences-char at (b ∷ l) c m f)) ∙ g))
         go (bad m) f =
-            let z : verdicts.Bad at ≡ verdicts.Good = sym (ap verdict (sequences-bad at (b ∷ l) m f)) ∙ g in
+            let z : Some at ≡ None = sym (ap verdict (sequences-bad at (b ∷ l) m f)) ∙ g in
             impossible cc
         go cut f =
-            let z : verdicts.Bad at ≡ verdicts.Good = sym (ap verdict (sequences-cut at (b ∷ l) f)) ∙ g in
+            let z : Some at ≡ None = sym (ap verdict (sequences-cut at (b ∷ l) f)) ∙ g in
             impossible cc
         go none f = absurd (not_none b l f)
 
 -- A text that `first_bad` calls good is the bytes of its characters.
-pub good_bytes_lem : (s : List ℕ) → first_bad s ≡ verdicts.Good → bytes_of (chars s) ≡ s
+pub good_bytes_lem : (s : List ℕ) → first_bad s ≡ None → bytes_of (chars s) ≡ s
 unfolding first_bad
 good_bytes_lem s g = (on (length s) s 0 (omega arith) g).0
 
-pub good_scalars : (s : List ℕ) → first_bad s ≡ verdicts.Good → Scalars (chars s)
+pub good_scalars : (s : List ℕ) → first_bad s ≡ None → Scalars (chars s)
 unfolding first_bad
 good_scalars s g = (on (length s) s 0 (omega arith) g).1
 
@@ -79,7 +79,7 @@ module _ (c : ℕ) (cs : List ℕ) (e : is_scalar c ≡ true) where
   unfolding bytes_of
   encoded_rest = drop_at (utf8 c) (bytes_of cs) (width c) (width-utf8 c)
 
-encoded_on : (cs : List ℕ) (at : ℕ) → Scalars cs → verdict (sequences 0 at (bytes_of cs)) ≡ verdicts.Good
+encoded_on : (cs : List ℕ) (at : ℕ) → Scalars cs → verdict (sequences 0 at (bytes_of cs)) ≡ None
 unfolding sequences bytes_of
 encoded_on [] at h = refl
 encoded_on (c ∷ cs) at h =
@@ -88,7 +88,7 @@ encoded_on (c ∷ cs) at h =
     ∙ encoded_on cs (at + width c) h.1
 
 -- The bytes of characters are good UTF-8, and have just these characters.
-pub encoded_good : (cs : List ℕ) → Scalars cs → first_bad (bytes_of cs) ≡ verdicts.Good
+pub encoded_good : (cs : List ℕ) → Scalars cs → first_bad (bytes_of cs) ≡ None
 unfolding first_bad
 encoded_good cs h = encoded_on cs 0 h
 

@@ -1,4 +1,5 @@
 -- The sequences of a text one after the other: what a loop over `decode_at` leans on.
+use Rattle.std.proofs.Common.{None, Option, Some}
 use Prim.Native.Nat.{ℕ, zero, suc, ◌+◌, ◌*◌, ◌%◌, ◌≤◌, ◌<◌}
 use native.Mathlib.Omega.{arith}
 use native.Mathlib.Nat.{add-zero}
@@ -12,8 +13,6 @@ use Rattle.chars.specs.declared.Step.{Step}
 use Rattle.chars.specs.declared.Step.TheVariants as steps
 use Rattle.chars.specs.declared.Decoded.{Decoded}
 use Rattle.chars.specs.declared.Decoded.TheVariants as decoded
-use Rattle.chars.specs.declared.Utf8.{Utf8}
-use Rattle.chars.specs.declared.Utf8.TheVariants as verdicts
 use Rattle.laws.specs.Quoted.{within}
 use Rattle.chars.specs.Utf8.{first, Front, char, bad, cut, none, rest, after, front, placed, Sequence, read, broken, short, sequences, verdict}
 
@@ -98,11 +97,11 @@ module _ (at : ℕ) where
 -- ---- by what `decode_at` answers
 
 -- the verdict on a text from place `at` on
-abbrev pub said : List ℕ → ℕ → Decoded → Utf8
+abbrev pub said : List ℕ → ℕ → Decoded → Option ℕ
 said s at (decoded.Char c next) = verdict (sequences 0 next (drop next s))
-said s at decoded.Bad = verdicts.Bad at
-said s at decoded.Cut = verdicts.Bad at
-said s at decoded.End = verdicts.Good
+said s at decoded.Bad = Some at
+said s at decoded.Cut = Some at
+said s at decoded.End = None
 
 -- one turn of a loop over `decode_at`
 pub turns : (s : List ℕ) (at : ℕ) {o : Decoded} → o ≡ placed at (front (drop at s)) → verdict (sequences 0 at (drop at s)) ≡ said s at o

@@ -3,11 +3,13 @@ use Prim.Native.Nat.{ℕ, zero, suc, ◌+◌, ◌-◌, ◌*◌, ◌/◌, ◌%◌
 use native.Mathlib.Omega.{arith}
 use mathlib.Core.Path.{◌≡◌, refl, sym, ap, subst, ◌∙◌}
 use mathlib.Core.List.{List, [], ◌∷◌}
-use mathlib.Core.Bool.{true, false}
+use mathlib.Core.Bool.{Bool, true, false}
 use lib.Dec.{eqb, ltb}
 use lib.ListN.{length, get_or, take, drop}
 use lib.Seq.{drop-cons, drop-drop}
-use borrow.Author.Tests.{eqb-true, eqb-false, ltb-true, ltb-false}
+use borrow.Author.Tests.{lt-ltb, le-ltb, eqb-true, eqb-false, ltb-true, ltb-false}
+use Rattle.std.specs.Prelude.{Option, Some, None, IfSome, if◌then◌else◌}
+use Rattle.std.specs.Option.{unwrap_or}
 use Rattle.laws.specs.Quoted.{within}
 use Rattle.laws.proofs.Choice.{by_bool, within_is, impossible}
 use Rattle.chars.specs.Utf8.{more, first, char, front, sequences, verdict}
@@ -83,6 +85,14 @@ module _ (b x y : ℕ) (t : List ℕ) (f : within 0x80 0xBF y ≡ true) where
         let k : within 0x80 0xBF x ≡ true = rw (e, u) at s in
         four_of 0x80 0xBF (first_f1 b (omega arith) (omega arith)) k (omega arith)))
 
+-- the test of the second byte, by the first
+module _ (b x : ℕ) {r : Bool} (e : r ≡ (if ltb b 0xF0 then second3 b x else second4 b x)) (y : r ≡ true) where
+  pub second_three : b < 0xF0 → second3 b x ≡ true
+  second_three h = rw (lt-ltb b 0xF0 h) at (sym e ∙ y)
+
+  pub second_four : 0xF0 ≤ b → second4 b x ≡ true
+  second_four h = rw (le-ltb b 0xF0 h) at (sym e ∙ y)
+
 -- ---- the bytes at a place
 
 module _ (s : List ℕ) (at : ℕ) where
@@ -121,6 +131,15 @@ module _ (s : List ℕ) (at : ℕ) where
 pub is_past : (l : List ℕ) (n : ℕ) → 0 < n → Wide l n → PastAscii l n
 is_past l zero h w = absurd (omega arith)
 is_past l (suc n) h w = w
+
+pub wide_or : (l : List ℕ) (o : Option ℕ) → IfSome o (λ n. PastAscii l n) → Wide l (unwrap_or o 0)
+wide_or l None w = tt
+wide_or l (Some zero) w = tt
+wide_or l (Some (suc n)) w = w
+
+-- it has a byte or more
+pub past_some : (l : List ℕ) (n : ℕ) → PastAscii l n → 1 ≤ n
+past_some l n w = char_some l w.letter n w.reads
 
 -- it stands in the text
 pub past_fits : (l : List ℕ) (n : ℕ) → PastAscii l n → n ≤ length l

@@ -1,8 +1,6 @@
 -- Worked examples, by computation.
-use Rattle.std.specs.Prelude.{ℕ, ◌≡◌, refl, List, [], ◌∷◌, true, false}
+use Rattle.std.specs.Prelude.{ℕ, ◌≡◌, refl, List, [], ◌∷◌, true, false, None, Option, Some}
 use Rattle.laws.specs.Quoted.{codes, within}
-use Rattle.chars.specs.declared.Utf8.{Utf8}
-use Rattle.chars.specs.declared.Utf8.TheVariants.{Good, Bad}
 use Rattle.chars.specs.Utf8.{first, rest, front, sequences, first_bad, chars}
 use Rattle.chars.specs.Encode.{is_scalar, utf8, encode, bytes_of, spelled}
 use Rattle.chars.specs.Blank.{is_blank}
@@ -10,10 +8,10 @@ use Rattle.chars.specs.Blank.{is_blank}
 -- a text, where it is bad, and its characters up to there
 pub record Row : Type 0 where
   pub bytes : List ℕ
-  pub bad : Utf8
+  pub bad : Option ℕ
   pub characters : List ℕ
 
-abbrev row : List ℕ → Utf8 → List ℕ → Row
+abbrev row : List ℕ → Option ℕ → List ℕ → Row
 row s b cs = record { bytes = s; bad = b; characters = cs }
 
 abbrev judged : List ℕ → Row
@@ -26,16 +24,16 @@ each (r ∷ rs) = judged r.bytes ∷ each rs
 -- RFC 3629, section 7, has the first: A, not identical to, Greek capital alpha, a full stop
 abbrev texts : List Row
 texts =
-    row (0x41 ∷ 0xE2 ∷ 0x89 ∷ 0xA2 ∷ 0xCE ∷ 0x91 ∷ 0x2E ∷ []) Good (0x41 ∷ 0x2262 ∷ 0x391 ∷ 0x2E ∷ [])
-    ∷ row (spelled "aλ€𝄞") Good (codes "aλ€𝄞")
-    ∷ row (0xF4 ∷ 0x8F ∷ 0xBF ∷ 0xBF ∷ []) Good (0x10FFFF ∷ [])  -- the last character
-    ∷ row (0x61 ∷ 0xF4 ∷ 0x90 ∷ 0x80 ∷ 0x80 ∷ []) (Bad 1) (codes "a")  -- past the last
-    ∷ row (0x61 ∷ 0x62 ∷ 0xC0 ∷ 0x80 ∷ []) (Bad 2) (codes "ab")  -- U+0000 in two bytes: overlong
-    ∷ row (0xE0 ∷ 0x9F ∷ 0xBF ∷ []) (Bad 0) []  -- U+07FF in three bytes: overlong
-    ∷ row (0xED ∷ 0xA0 ∷ 0x80 ∷ []) (Bad 0) []  -- U+D800, a surrogate
-    ∷ row (0x61 ∷ 0x80 ∷ []) (Bad 1) (codes "a")  -- a later byte with no first
-    ∷ row (0x61 ∷ 0xE2 ∷ 0x82 ∷ []) (Bad 1) (codes "a")  -- the end cuts the euro sign
-    ∷ row (0x61 ∷ 0xE2 ∷ 0x28 ∷ 0xA1 ∷ []) (Bad 1) (codes "a")
+    row (0x41 ∷ 0xE2 ∷ 0x89 ∷ 0xA2 ∷ 0xCE ∷ 0x91 ∷ 0x2E ∷ []) None (0x41 ∷ 0x2262 ∷ 0x391 ∷ 0x2E ∷ [])
+    ∷ row (spelled "aλ€𝄞") None (codes "aλ€𝄞")
+    ∷ row (0xF4 ∷ 0x8F ∷ 0xBF ∷ 0xBF ∷ []) None (0x10FFFF ∷ [])  -- the last character
+    ∷ row (0x61 ∷ 0xF4 ∷ 0x90 ∷ 0x80 ∷ 0x80 ∷ []) (Some 1) (codes "a")  -- past the last
+    ∷ row (0x61 ∷ 0x62 ∷ 0xC0 ∷ 0x80 ∷ []) (Some 2) (codes "ab")  -- U+0000 in two bytes: overlong
+    ∷ row (0xE0 ∷ 0x9F ∷ 0xBF ∷ []) (Some 0) []  -- U+07FF in three bytes: overlong
+    ∷ row (0xED ∷ 0xA0 ∷ 0x80 ∷ []) (Some 0) []  -- U+D800, a surrogate
+    ∷ row (0x61 ∷ 0x80 ∷ []) (Some 1) (codes "a")  -- a later byte with no first
+    ∷ row (0x61 ∷ 0xE2 ∷ 0x82 ∷ []) (Some 1) (codes "a")  -- the end cuts the euro sign
+    ∷ row (0x61 ∷ 0xE2 ∷ 0x28 ∷ 0xA1 ∷ []) (Some 1) (codes "a")
     ∷ []
 
 pub decoding : each texts ≡ texts

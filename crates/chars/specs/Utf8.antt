@@ -1,12 +1,10 @@
 -- UTF-8 as RFC 3629 has it: section 4 says which bytes may stand where, section 3 which bits of a character each of them holds.
-use Rattle.std.specs.Prelude.{ℕ, zero, suc, ◌+◌, ◌-◌, ◌*◌, ◌%◌, List, [], ◌∷◌, Bool, if◌then◌else◌}
+use Rattle.std.specs.Prelude.{ℕ, zero, suc, ◌+◌, ◌-◌, ◌*◌, ◌%◌, List, [], ◌∷◌, Bool, if◌then◌else◌, None, Option, Some}
 use Rattle.laws.specs.Quoted.{within}
 use Rattle.chars.specs.declared.Step.{Step}
 use Rattle.chars.specs.declared.Step.TheVariants as step
 use Rattle.chars.specs.declared.Decoded.{Decoded}
 use Rattle.chars.specs.declared.Decoded.TheVariants as decoded
-use Rattle.chars.specs.declared.Utf8.{Utf8}
-use Rattle.chars.specs.declared.Utf8.TheVariants as utf8
 
 -- whether b is a character by itself, UTF8-1
 abbrev pub ascii : ℕ → Bool
@@ -88,14 +86,14 @@ sequences (suc k) at (b ∷ s) = sequences k (at + 1) s
 sequences zero at (b ∷ s) = onward at (front (b ∷ s)) (λ k. sequences k (at + 1) s)
 
 -- no bad sequence, or the start of the first; one that the end cuts is bad too
-abbrev pub verdict : List Sequence → Utf8
-verdict [] = utf8.Good
+abbrev pub verdict : List Sequence → Option ℕ
+verdict [] = None
 verdict (read c f t ∷ l) = verdict l
-verdict (broken f t ∷ l) = utf8.Bad f
-verdict (short f ∷ l) = utf8.Bad f
+verdict (broken f t ∷ l) = Some f
+verdict (short f ∷ l) = Some f
 
 -- Refusal 21: "bytes aren't UTF-8", at the "start of the first bad sequence".
-unfoldable pub first_bad : List ℕ → Utf8
+unfoldable pub first_bad : List ℕ → Option ℕ
 first_bad s = verdict (sequences 0 0 s)
 
 abbrev pub code_points : List Sequence → List ℕ

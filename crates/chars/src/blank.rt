@@ -38,12 +38,10 @@ pub fn is_blank(c: u32) -> bool
     ensures { result ≡ is_blank c }
 {
     let table = BLANKS;
-    let mut row = 0;
-    while row < BLANK_ROWS {
+    for row in 0..BLANK_ROWS {
         if table[row] == c {
             return true;
         }
-        row += 1;
     }
     false
 }

@@ -1,13 +1,12 @@
 // Characters out of bytes: RFC 3629, section 4.
-ghost use Rattle.std.specs.Prelude.{◌≡◌, ◌+◌, ◌<◌, leb, drop};
-ghost use Rattle.laws.specs.Texts.{span};
+ghost use Rattle.std.specs.Prelude.{◌≡◌, drop};
 ghost use Rattle.chars.specs.Utf8.{ascii, first, placed, front, first_bad};
 ghost use Rattle.chars.specs.Machine.{step};
 ghost use Rattle.chars.specs.Wide.{Passed};
 
 use crate::letters::wide_end;
-use crate::{Begun, Decoded, Step, Utf8, encode};
-use byte_runs::{ASCII_END, BLOCK, pairs_at};
+use crate::{Begun, Decoded, Step, encode};
+use byte_runs::{ASCII_END, BLOCK, ByteClass, pairs_at, run_end, starts_run};
 
 // UTF8-tail, and the six bits that it holds.
 pub const TAIL_LOW: u8 = 0x80;
@@ -42,40 +41,23 @@ fn more(need: u8, low: u8, high: u8, code: u8) -> Step
 }
 
 // A character's first byte. The bytes written out are those of the table of section 4.
+#[tactic(auto, using(crate::proofs::Table::first_ascii, crate::proofs::Table::first_gap, crate::proofs::Table::first_c2, crate::proofs::Table::first_e0, crate::proofs::Table::first_e1, crate::proofs::Table::first_ed, crate::proofs::Table::first_ee, crate::proofs::Table::first_f0, crate::proofs::Table::first_f1, crate::proofs::Table::first_f4, crate::proofs::Table::first_past))]
 fn first_byte(b: u8) -> Step
     ensures { result ≡ first b }
 {
-    if b < ASCII_END {
-        return Step::Char(b as u32);
+    match b {
+        0x00..=0x7F => Step::Char(b as u32),
+        0x80..=0xC1 => Step::Bad,
+        0xC2..=0xDF => more(1, TAIL_LOW, TAIL_HIGH, b - MARK_TWO),
+        0xE0 => more(2, 0xA0, TAIL_HIGH, b - MARK_THREE),
+        0xE1..=0xEC => more(2, TAIL_LOW, TAIL_HIGH, b - MARK_THREE),
+        0xED => more(2, TAIL_LOW, 0x9F, b - MARK_THREE),
+        0xEE..=0xEF => more(2, TAIL_LOW, TAIL_HIGH, b - MARK_THREE),
+        0xF0 => more(3, 0x90, TAIL_HIGH, b - MARK_FOUR),
+        0xF1..=0xF3 => more(3, TAIL_LOW, TAIL_HIGH, b - MARK_FOUR),
+        0xF4 => more(3, TAIL_LOW, 0x8F, b - MARK_FOUR),
+        0xF5..=0xFF => Step::Bad,
     }
-    if b < 0xC2 {
-        return Step::Bad;
-    }
-    if b < 0xE0 {
-        return more(1, TAIL_LOW, TAIL_HIGH, b - MARK_TWO);
-    }
-    if b < 0xE1 {
-        return more(2, 0xA0, TAIL_HIGH, b - MARK_THREE);
-    }
-    if b < 0xED {
-        return more(2, TAIL_LOW, TAIL_HIGH, b - MARK_THREE);
-    }
-    if b < 0xEE {
-        return more(2, TAIL_LOW, 0x9F, b - MARK_THREE);
-    }
-    if b < 0xF0 {
-        return more(2, TAIL_LOW, TAIL_HIGH, b - MARK_THREE);
-    }
-    if b < 0xF1 {
-        return more(3, 0x90, TAIL_HIGH, b - MARK_FOUR);
-    }
-    if b < 0xF4 {
-        return more(3, TAIL_LOW, TAIL_HIGH, b - MARK_FOUR);
-    }
-    if b < 0xF5 {
-        return more(3, TAIL_LOW, 0x8F, b - MARK_FOUR);
-    }
-    Step::Bad
 }
 
 // One byte more of a text that comes a byte at a time. It is bad at the first byte after which no valid text can follow.
@@ -119,23 +101,12 @@ fn decode_bytes(s: &[u8], at: usize) -> Decoded
         high: 0,
         code: 0,
     };
-    let mut i = at;
-    while i < s.len() {
+    for i in at..s.len() {
         match byte_step(t, s[i]) {
-            Step::More(u) => {
-                t = u;
-            }
-            Step::Char(c) => {
-                return Decoded::Char {
-                    code: c,
-                    next: i + 1,
-                };
-            }
-            Step::Bad => {
-                return Decoded::Bad;
-            }
+            Step::More(u) => t = u,
+            Step::Char(code) => return Decoded::Char { code, next: i + 1 },
+            Step::Bad => return Decoded::Bad,
         }
-        i += 1;
     }
     Decoded::Cut
 }
@@ -157,42 +128,16 @@ pub fn decode_at(s: &[u8], at: usize) -> Decoded
     decode_bytes(s, at)
 }
 
-// Whether n bytes of ASCII stand at a place.
-fn ascii_block(s: &[u8], at: usize, n: usize) -> bool
-    requires { 0 < n }
-    ensures { result ≡ leb n (span ascii (drop at s.now)) }
-{
-    if s.len() < n {
-        return false;
-    }
-    if s.len() - n < at {
-        return false;
-    }
-    let mut or: u8 = 0;
-    let mut j: usize = 0;
-    while j < n {
-        or = or | s[at + j];
-        j += 1;
-    }
-    or < ASCII_END
-}
+// The characters of ASCII.
+#[derive(Clone, Copy)]
+struct Ascii;
 
-// The place past the run of ASCII at a place.
-fn ascii_end(s: &[u8], at: usize) -> usize
-    ensures { result ≡ at + span ascii (drop at s.now) }
-{
-    let mut i = at;
-    while ascii_block(s, i, BLOCK) {
-        i += BLOCK;
+impl ByteClass for Ascii {
+    ghost passes = { λ s c. ascii c };
+
+    fn ends(self, c: u8) -> bool {
+        ASCII_END <= c
     }
-    while i < s.len() {
-        if s[i] < ASCII_END {
-            i += 1;
-        } else {
-            return i;
-        }
-    }
-    i
 }
 
 // Past the long blocks of ASCII at the start of a text. Most texts are ASCII throughout, or begin so.
@@ -200,7 +145,7 @@ fn past_long_blocks(s: &[u8]) -> usize
     ensures { Passed s.now 0 result }
 {
     let mut i = 0;
-    while ascii_block(s, i, LONG_BLOCK) {
+    while starts_run(s, i, LONG_BLOCK, Ascii) {
         i += LONG_BLOCK;
     }
     i
@@ -212,26 +157,25 @@ fn past_blocks(s: &[u8], from: usize) -> usize
 {
     let mut i = from;
     loop {
-        if ascii_block(s, i, BLOCK) {
+        if starts_run(s, i, BLOCK, Ascii) {
             i += BLOCK;
         } else {
-            let n = pairs_at(s, i);
-            if n == 0 {
-                return i;
+            match pairs_at(s, i) {
+                Some(n) => i += n,
+                None => return i,
             }
-            i += n;
         }
     }
 }
 
 // Whether a text is UTF-8, else where its first bad sequence starts: refusal 21 and its place. What is good is passed by direct tests; what
 // they leave is read byte by byte.
-pub fn first_bad(s: &[u8]) -> Utf8
+pub fn first_bad(s: &[u8]) -> Option<usize>
     ensures { result ≡ first_bad s.now }
 {
     let mut i = past_long_blocks(s);
     while i < s.len() {
-        let j = wide_end(s, ascii_end(s, past_blocks(s, i)));
+        let j = wide_end(s, run_end(s, past_blocks(s, i), Ascii));
         if i < j {
             i = j;
         } else {
@@ -239,17 +183,10 @@ pub fn first_bad(s: &[u8]) -> Utf8
                 Decoded::Char { code: _, next } => {
                     i = next;
                 }
-                Decoded::Bad => {
-                    return Utf8::Bad(i);
-                }
-                Decoded::Cut => {
-                    return Utf8::Bad(i);
-                }
-                Decoded::End => {
-                    return Utf8::Good;
-                }
+                Decoded::Bad | Decoded::Cut => return Some(i),
+                Decoded::End => return None,
             }
         }
     }
-    Utf8::Good
+    None
 }

@@ -35,13 +35,7 @@ pub const EIGHTEEN_BITS: u32 = 64 * 64 * 64;
 pub fn is_scalar(c: u32) -> bool
     ensures { result ≡ is_scalar c }
 {
-    if c < SURROGATES {
-        return true;
-    }
-    if c < SURROGATES_END {
-        return false;
-    }
-    c < ALL_END
+    c < SURROGATES || SURROGATES_END <= c && c < ALL_END
 }
 
 // How many bytes a character has.

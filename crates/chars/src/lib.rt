@@ -36,19 +36,13 @@ pub enum Decoded {
     End,
 }
 
-// Whether a text is UTF-8, else where its first bad sequence starts.
-#[derive(Clone, Copy)]
-pub enum Utf8 {
-    Good,
-    Bad(usize),
-}
-
 mod blank;
 mod decode;
 pub mod encode;
 mod letters;
 
 pub use blank::is_blank;
+pub use byte_runs::between;
 pub use decode::{TAIL_HIGH, TAIL_LOW, byte_step, decode_at, first_bad};
 pub use encode::{char_width, is_scalar, put_char};
-pub use letters::{between, chars_end, letter_at, wide_end};
+pub use letters::{chars_end, letter_at, wide_end};

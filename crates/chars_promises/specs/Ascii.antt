@@ -1,7 +1,7 @@
 -- The blanks of ASCII, which runs of bytes are tested for (`blank` of `byte_runs/specs/Runs`; in code `byte_runs::runs` and `lexer::reading`), are the
 -- part of the one table of blanks that is ASCII.
-use Rattle.std.specs.Prelude.{ℕ, zero, suc, ◌≤◌, ◌<◌, ◌≡◌, refl, Bool, true, false, not, ◌&&◌, eqb, ltb, if◌then◌else◌}
-use Rattle.std.proofs.Common.{sym, ap, subst, ◌∙◌, arith, ltb-true, ltb-false, ne_eqb}
+use Rattle.std.specs.Prelude.{ℕ, zero, suc, ◌≤◌, ◌<◌, ◌≡◌, refl, Bool, true, false, not, ◌&&◌, eqb, ltb}
+use Rattle.std.proofs.Common.{sym, subst, arith, ltb-true, ltb-false, ne_eqb}
 use Rattle.laws.specs.Quoted.{within}
 use Rattle.laws.proofs.Choice.{by_bool, no_yes, and_true, within_is}
 use Rattle.chars.specs.Blank.{is_blank}

@@ -1,5 +1,5 @@
 -- Characters: what each call of crate `chars` ensures is `r ≡` its definition, so that no other answer is permitted.
-use Rattle.std.specs.Prelude.{ℕ, ◌≡◌, refl, true, false, List, [], ◌∷◌, map, drop, replicate}
+use Rattle.std.specs.Prelude.{ℕ, ◌≡◌, refl, true, false, List, [], ◌∷◌, map, drop, replicate, None, Some}
 use Rattle.std.proofs.Common.{arith}
 use Rattle.laws.specs.Quoted.{code, within}
 use Rattle.chars.specs.Encode.{is_scalar, utf8, width, encode, bytes_of, spelled, lay, laid}
@@ -10,7 +10,6 @@ use Rattle.chars.specs.declared.Begun.{Begun}
 use Rattle.chars.specs.declared.Step.TheVariants as steps
 use Rattle.chars.specs.declared.Decoded.{Decoded}
 use Rattle.chars.specs.declared.Decoded.TheVariants as decoded
-use Rattle.chars.specs.declared.Utf8.TheVariants as utf8
 
 -- what n bytes of lent memory hold before a call
 abbrev room : ℕ → List ℕ
@@ -39,9 +38,9 @@ pub record Rows : Type 0 where
   pub at_end_case : decoded_at (spelled "a") 1 ≡ decoded.End
   pub past_end : decoded_at (spelled "a") 2 ≡ decoded.End
   -- first_bad
-  pub good : first_bad (spelled "abc") ≡ utf8.Good
-  pub overlong : first_bad (0xE0 ∷ 0x80 ∷ 0x80 ∷ []) ≡ utf8.Bad 0
-  pub short : first_bad (code "a" ∷ 0xE2 ∷ 0x82 ∷ []) ≡ utf8.Bad 1
+  pub good : first_bad (spelled "abc") ≡ None
+  pub overlong : first_bad (0xE0 ∷ 0x80 ∷ 0x80 ∷ []) ≡ Some 0
+  pub short : first_bad (code "a" ∷ 0xE2 ∷ 0x82 ∷ []) ≡ Some 1
   -- byte_step: a first byte; A0 after ED, where the surrogates would begin; BF after CE; a state that no text leads to
   pub first_byte : step start 0xED ≡ steps.More (within_one 2 0x80 0x9F 0x0D)
   pub surrogate : step (within_one 2 0x80 0x9F 0x0D) 0xA0 ≡ steps.Bad

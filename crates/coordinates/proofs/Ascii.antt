@@ -1,10 +1,10 @@
 -- A decimal is a text of ASCII, so it has no bad sequence: each production passes digits, a sign, a dot or a marker.
-use Rattle.std.proofs.Common.{◌≡◌, ℕ, suc, ◌+◌, ◌<◌, Bool, true, eqb, ltb, List, [], ◌∷◌, length, drop, sym, ◌∙◌, arith, drop-drop, eqb-true}
+use Rattle.numbers.specs.declared.Real.{Real}
+use Rattle.std.proofs.Common.{◌≡◌, ℕ, suc, ◌+◌, ◌<◌, Bool, true, eqb, ltb, List, [], ◌∷◌, length, drop, sym, ◌∙◌, arith, drop-drop, eqb-true, None, Option, Some}
 use Rattle.laws.specs.Quoted.{code}
 use Rattle.laws.specs.Texts.{span, starts}
 use Rattle.laws.proofs.Choice.{by_bool, if_all, if_is, within_is, impossible}
 use Rattle.laws.proofs.Places.{past}
-use Rattle.chars.specs.declared.Utf8.TheVariants as utf8
 use Rattle.chars.specs.Utf8.{ascii, first_bad}
 use Rattle.digits.specs.declared.Span.{Span}
 use Rattle.digits.specs.Digits.{digit_of, digits, sign, negative, uinteger, span_at}
@@ -13,10 +13,6 @@ use Rattle.numbers.specs.declared.Point.{Point}
 use Rattle.numbers.specs.declared.Real.TheVariants.{Integer, Rational, Decimal, PosInf, NegInf, PosNan, NegNan, ImpliedZero, ImpliedOne}
 use Rattle.numbers.specs.declared.Suffix.{Suffix}
 use Rattle.numbers.specs.declared.Suffix.TheVariants.{Empty, Marked, Bad}
-use Rattle.numbers.specs.declared.MaybeReal.{MaybeReal}
-use Rattle.numbers.specs.declared.MaybeReal.TheVariants.{AReal, NoReal}
-use Rattle.numbers.specs.declared.MaybePoint.{MaybePoint}
-use Rattle.numbers.specs.declared.MaybePoint.TheVariants.{APoint, NoPoint}
 use Rattle.numbers.specs.Reals.{exponent_marker, exponent, suffix, point_of, dotted, undotted, decimal, point_in, one_decimal}
 use Rattle.numbers.proofs.Ascii.{Ascii, ascii_good}
 use Rattle.coordinates.specs.Values.{is_whole}
@@ -27,13 +23,13 @@ IfSuffix P Empty = P
 IfSuffix P (Marked e) = P
 IfSuffix P Bad = Unit {0}
 
-abbrev IfReal : Type 0 → MaybeReal → Type 0
-IfReal P (AReal r) = P
-IfReal P NoReal = Unit {0}
+abbrev IfReal : Type 0 → Option Real → Type 0
+IfReal P (Some r) = P
+IfReal P None = Unit {0}
 
-abbrev IfPoint : Type 0 → MaybePoint → Type 0
-IfPoint P (APoint d) = P
-IfPoint P NoPoint = Unit {0}
+abbrev IfPoint : Type 0 → Option Point → Type 0
+IfPoint P (Some d) = P
+IfPoint P None = Unit {0}
 
 -- what is passed is ASCII
 digits_ascii : (s : List ℕ) → Ascii (drop (digits 10 s) s) → Ascii s
@@ -118,9 +114,9 @@ dotted_ascii neg p w q s =
     if_all (IfReal (Ascii s)) (eqb (w + digits 10 s) 0) tt
     (point_if (Ascii s) neg (span_at p w) (span_at q (digits 10 s)) (suffix (q + digits 10 s) (drop (digits 10 s) s)) (run_suffix q s))
 
-real_after : (P Q : Type 0) (x : MaybeReal) → (P → Q) → IfReal P x → IfReal Q x
-real_after P Q (AReal r) f h = f h
-real_after P Q NoReal f h = tt
+real_after : (P Q : Type 0) (x : Option Real) → (P → Q) → IfReal P x → IfReal Q x
+real_after P Q (Some r) f h = f h
+real_after P Q None f h = tt
 
 decimal_ascii : (neg : Bool) (p : ℕ) (s : List ℕ) → IfReal (Ascii s) (decimal neg p s)
 unfolding decimal
@@ -132,18 +128,18 @@ decimal_ascii neg p s =
     (dotted_ascii neg p n (p + n + 1) (drop (n + 1) s)))
     (λ _. undotted_if (Ascii s) neg p n (suffix (p + n) (drop n s)) (run_suffix p s))
 
-told_if_lem : (P : Type 0) (r : MaybeReal) → IfReal P r → IfPoint P (point_in r)
+told_if_lem : (P : Type 0) (r : Option Real) → IfReal P r → IfPoint P (point_in r)
 unfolding point_in
-told_if_lem P (AReal (Integer a)) h = tt
-told_if_lem P (AReal (Rational a b)) h = tt
-told_if_lem P (AReal (Decimal d)) h = h
-told_if_lem P (AReal PosInf) h = tt
-told_if_lem P (AReal NegInf) h = tt
-told_if_lem P (AReal PosNan) h = tt
-told_if_lem P (AReal NegNan) h = tt
-told_if_lem P (AReal ImpliedZero) h = tt
-told_if_lem P (AReal (ImpliedOne neg)) h = tt
-told_if_lem P NoReal h = tt
+told_if_lem P (Some (Integer a)) h = tt
+told_if_lem P (Some (Rational a b)) h = tt
+told_if_lem P (Some (Decimal d)) h = h
+told_if_lem P (Some PosInf) h = tt
+told_if_lem P (Some NegInf) h = tt
+told_if_lem P (Some PosNan) h = tt
+told_if_lem P (Some NegNan) h = tt
+told_if_lem P (Some ImpliedZero) h = tt
+told_if_lem P (Some (ImpliedOne neg)) h = tt
+told_if_lem P None h = tt
 
 one_decimal_ascii : (s : List ℕ) → IfPoint (Ascii s) (one_decimal s)
 unfolding one_decimal
@@ -153,11 +149,11 @@ one_decimal_ascii s =
     (decimal_ascii (negative s) (sign s) (drop (sign s) s)))
 
 -- so a decimal is UTF-8
-pub decimal_good : (s : List ℕ) (d : Point) → one_decimal s ≡ APoint d → first_bad s ≡ utf8.Good
+pub decimal_good : (s : List ℕ) (d : Point) → one_decimal s ≡ Some d → first_bad s ≡ None
 decimal_good s d e = ascii_good s (rw e at (one_decimal_ascii s))
 
 -- so has an integer none
-pub whole_good : (s : List ℕ) → is_whole s ≡ true → first_bad s ≡ utf8.Good
+pub whole_good : (s : List ℕ) → is_whole s ≡ true → first_bad s ≡ None
 unfolding is_whole
 whole_good s e = ascii_good s (sign_ascii s (uinteger_ascii (drop (sign s) s) e))
 
@@ -171,5 +167,5 @@ spanned (c ∷ s) e =
     (omega arith, spanned s (omega arith)))
     (λ f. absurd (let g : 0 ≡ suc (length s) = rw f at e in omega arith))
 
-pub ascii_whole : (s : List ℕ) → true ≡ eqb (span ascii s) (length s) → utf8.Good ≡ first_bad s
+pub ascii_whole : (s : List ℕ) → true ≡ eqb (span ascii s) (length s) → None ≡ first_bad s
 ascii_whole s e = sym (ascii_good s (spanned s (eqb-true (span ascii s) (length s) (sym e))))

@@ -1,15 +1,11 @@
 -- What a value of the coordinate call means, without a word of IEEE 754; and that the call gives each text its value.
-use Rattle.std.proofs.Common.{◌≡◌, ℕ, suc, ◌<◌, ◌≤◌, Bool, true, T, ltb, leb, List, length, ℤ, pos, negsuc, refl, ap, subst, lit<, le-ltb, le-leb, leb-true}
+use Rattle.std.proofs.Common.{◌≡◌, ℕ, suc, ◌<◌, ◌≤◌, Bool, true, T, ltb, leb, List, length, ℤ, pos, negsuc, refl, ap, subst, lit<, le-ltb, le-leb, leb-true, None, Option, Some}
 use lib.Ieee.{Float, binary64, round, fits}
 use lib.Ieee.Fits.{round-fits}
 use Rattle.laws.proofs.Choice.{if_is, impossible}
 use Rattle.refusal.specs.Refusals.{limit}
-use Rattle.chars.specs.declared.Utf8.{Utf8}
-use Rattle.chars.specs.declared.Utf8.TheVariants as utf8
 use Rattle.chars.specs.Utf8.{first_bad}
 use Rattle.numbers.specs.declared.Point.{Point}
-use Rattle.numbers.specs.declared.MaybePoint.{MaybePoint}
-use Rattle.numbers.specs.declared.MaybePoint.TheVariants.{APoint, NoPoint}
 use Rattle.numbers.specs.Reals.{one_decimal}
 use Rattle.coordinates.specs.Answers.{Answer, float, refused}
 use Rattle.coordinates.specs.Coordinate.{all_digits, scale, most_digits, most_scale, numerator, denominator, in_range, scaled, outside, of_point, of_decimal, checked, judged, coordinate}
@@ -28,7 +24,7 @@ abbrev MeansIf : List ℕ → Answer → Type 0
 MeansIf s (float x) = Means s x
 MeansIf s (refused n p) = Unit {0}
 
-point_means : (s : List ℕ) (p : Point) → one_decimal s ≡ APoint p → MeansIf s (of_point s p)
+point_means : (s : List ℕ) (p : Point) → one_decimal s ≡ Some p → MeansIf s (of_point s p)
 unfolding of_point scaled
 point_means s p e =
     if_is (MeansIf s) (leb (all_digits s p) most_digits) (λ d.
@@ -45,17 +41,17 @@ point_means s p e =
 text_means : (s : List ℕ) → MeansIf s (of_decimal s (one_decimal s))
 text_means s = go (one_decimal s) refl
   where
-    go : (a : MaybePoint) → one_decimal s ≡ a → MeansIf s (of_decimal s a)
-    go (APoint p) e = unfold of_decimal in point_means s p e
-    go NoPoint e = unfold of_decimal in tt
+    go : (a : Option Point) → one_decimal s ≡ a → MeansIf s (of_decimal s a)
+    go (Some p) e = unfold of_decimal in point_means s p e
+    go None e = unfold of_decimal in tt
 
 call_means : (s : List ℕ) → MeansIf s (coordinate s)
 unfolding coordinate judged
 call_means s = if_is (MeansIf s) (ltb limit (length s)) (λ _. tt) (λ _. go (first_bad s))
   where
-    go : (u : Utf8) → MeansIf s (checked u (of_decimal s (one_decimal s)))
-    go utf8.Good = text_means s
-    go (utf8.Bad p) = tt
+    go : (u : Option ℕ) → MeansIf s (checked u (of_decimal s (one_decimal s)))
+    go None = text_means s
+    go (Some p) = tt
 
 -- the value that the call gives is the text's
 pub value_means : (s : List ℕ) (x : Float) → coordinate s ≡ float x → Means s x
@@ -66,7 +62,7 @@ den_pos (pos k) = lit< tt
 den_pos (negsuc k) = ten_pos (suc k)
 
 -- and a text's value is given: no other f64 is
-pub means_value : (s : List ℕ) (x : Float) → length s ≤ limit → first_bad s ≡ utf8.Good → T (fits binary64 x) → Means s x → coordinate s ≡ float x
+pub means_value : (s : List ℕ) (x : Float) → length s ≤ limit → first_bad s ≡ None → T (fits binary64 x) → Means s x → coordinate s ≡ float x
 unfolding coordinate judged of_decimal of_point scaled
 means_value s x l u f a =
     let m = all_digits s a.point in
@@ -82,10 +78,10 @@ abbrev GivenOrOutside : Answer → Type 0
 GivenOrOutside (float x) = Unit {0}
 GivenOrOutside (refused n p) = refused n p ≡ outside
 
-decimal_given : (s : List ℕ) (d : MaybePoint) → GivenOrOutside (of_decimal s d)
+decimal_given : (s : List ℕ) (d : Option Point) → GivenOrOutside (of_decimal s d)
 unfolding of_decimal of_point scaled
-decimal_given s NoPoint = refl
-decimal_given s (APoint p) =
+decimal_given s None = refl
+decimal_given s (Some p) =
     if_is GivenOrOutside (leb (all_digits s p) most_digits) (λ _. if_is GivenOrOutside (in_range (scale s p)) (λ _. tt) (λ _. refl)) (λ _. refl)
 
 else_outside : (a : Answer) → GivenOrOutside a → ((x : Float) → a ≡ float x → ⊥) → a ≡ outside
@@ -93,13 +89,13 @@ else_outside (float x) g n = absurd (n x refl)
 else_outside (refused k p) g n = g
 
 -- 28 exactly where no float is the text's value
-pub outside_exactly : (s : List ℕ) → length s ≤ limit → first_bad s ≡ utf8.Good → ((x : Float) → Means s x → ⊥) → coordinate s ≡ outside
+pub outside_exactly : (s : List ℕ) → length s ≤ limit → first_bad s ≡ None → ((x : Float) → Means s x → ⊥) → coordinate s ≡ outside
 outside_exactly s l u n = else_outside (coordinate s) whole (λ x e. n x (value_means s x e))
   where
     whole : GivenOrOutside (coordinate s)
     whole = unfold coordinate judged in (simp (le-ltb _ _ l, u) (decimal_given s (one_decimal s)))
 
-pub means_not_outside : (s : List ℕ) (x : Float) → length s ≤ limit → first_bad s ≡ utf8.Good → T (fits binary64 x) → Means s x
+pub means_not_outside : (s : List ℕ) (x : Float) → length s ≤ limit → first_bad s ≡ None → T (fits binary64 x) → Means s x
     → coordinate s ≡ outside → ⊥
 means_not_outside s x l u f a e =
     let g = means_value s x l u f a in impossible cc

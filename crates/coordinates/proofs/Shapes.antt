@@ -1,5 +1,6 @@
 -- The answer to a text by the parts that are passed: its sign, its digits up to w, a dot and digits up to e, and what follows.
-use Rattle.std.proofs.Common.{◌≡◌, ℕ, ◌+◌, ◌-◌, ◌^◌, ◌<◌, ◌≤◌, Bool, true, false, eqb, ltb, List, [], ◌∷◌, ◌++◌, length, take, drop, pos, ◌-ℤ◌, neg_ℤ, sym, refl, ap, ◌∙◌, zero-add, arith, length-drop, ltb-false, ltb-true, eq-eqb, ne_eqb, eqb-true}
+use Rattle.numbers.specs.declared.Real.{Real}
+use Rattle.std.proofs.Common.{◌≡◌, ℕ, ◌+◌, ◌-◌, ◌^◌, ◌<◌, ◌≤◌, Bool, true, false, eqb, ltb, List, [], ◌∷◌, ◌++◌, length, take, drop, pos, ◌-ℤ◌, neg_ℤ, sym, refl, ap, ◌∙◌, zero-add, arith, length-drop, ltb-false, ltb-true, eq-eqb, ne_eqb, eqb-true, None, Option}
 use borrow.Author.Tests.{eqb-false}
 use Rattle.laws.specs.Quoted.{code}
 use Rattle.laws.specs.Texts.{starts}
@@ -11,8 +12,6 @@ use Rattle.digits.specs.declared.Span.{Span}
 use Rattle.digits.specs.Digits.{digit_of, digits, sign, uinteger, value, run_value, signed}
 use Rattle.digits.proofs.Digits.{uinteger_past, uinteger_run}
 use Rattle.numbers.specs.declared.Exponent.{Exponent}
-use Rattle.numbers.specs.declared.MaybeReal.{MaybeReal}
-use Rattle.numbers.specs.declared.MaybeReal.TheVariants.{NoReal}
 use Rattle.numbers.specs.declared.Suffix.{Suffix}
 use Rattle.numbers.specs.declared.Suffix.TheVariants.{Empty, Marked, Bad}
 use Rattle.numbers.specs.Reals.{exponent, suffix, point_of, dotted, decimal, point_in, one_decimal}
@@ -108,12 +107,12 @@ module _ (t : List ℕ) (neg : Bool) (m f p : ℕ) (down : Bool) (a : ℕ) (n : 
 
 -- the sign and the first digits are passed
 module _ (t : List ℕ) (neg : Bool) (p : ℕ) (w : Run) (h : Passed t neg p w) where
-  decimal-told : (x : MaybeReal) → x ≡ decimal neg p (drop p t) → told t (point_in x) ≡ told t (one_decimal t)
+  decimal-told : (x : Option Real) → x ≡ decimal neg p (drop p t) → told t (point_in x) ≡ told t (one_decimal t)
   decimal-told x e =
       ap (told t) (one_decimal_at t neg p x (point_in x) h.0 (h.1 ∙ sym (zero-add (sign t))) e refl)
 
-  none_told : NoReal ≡ decimal neg p (drop p t) → judged t outside ≡ told t (one_decimal t)
-  none_told e = let z : judged t outside ≡ told t (point_in NoReal) = unfold told point_in in refl in z ∙ decimal-told NoReal e
+  none_told : None ≡ decimal neg p (drop p t) → judged t outside ≡ told t (one_decimal t)
+  none_told e = let z : judged t outside ≡ told t (point_in None) = unfold told point_in in refl in z ∙ decimal-told None e
 
   first_value : capped w.value ≡ capped (value 10 0 (slice (at p w.end) t))
   first_value = h.3 ∙ ap capped (run_slice t p w.end h.2 0)
@@ -143,7 +142,7 @@ module _ (t : List ℕ) (neg : Bool) (p : ℕ) (w : Run) (h : Passed t neg p w) 
     pub dot_none : p + 1 ≡ e → judged t outside ≡ told t (one_decimal t)
     dot_none f =
         let k = h.2 in
-        none_told (decimal_dot neg t p w.end h.2 NoReal s (dotted_none neg t p w.end (w.end + 1) e (omega arith) d (omega arith)
+        none_told (decimal_dot neg t p w.end h.2 None s (dotted_none neg t p w.end (w.end + 1) e (omega arith) d (omega arith)
         (omega arith)))
 
     all_value : (v : ℕ) → capped v ≡ capped (run_value w.value (drop (w.end + 1) t))
@@ -184,13 +183,13 @@ module _ (t : List ℕ) (neg : Bool) (p : ℕ) (w : Run) (h : Passed t neg p w) 
     plain_none f = go (suffix w.end (drop w.end t)) refl
       where
         go : (x : Suffix) → x ≡ suffix w.end (drop w.end t) → judged t outside ≡ told t (one_decimal t)
-        go Empty i = none_told (decimal_no neg t p w.end h.2 NoReal Empty s i (undotted_empty neg p w.end Empty refl))
+        go Empty i = none_told (decimal_no neg t p w.end h.2 None Empty s i (undotted_empty neg p w.end Empty refl))
         go (Marked d) i =
-            none_told (decimal_no neg t p w.end h.2 NoReal (Marked d) s i (undotted_none neg p w.end (Marked d) d refl f))
-        go Bad i = none_told (decimal_no neg t p w.end h.2 NoReal Bad s i (undotted_bad neg p w.end Bad refl))
+            none_told (decimal_no neg t p w.end h.2 None (Marked d) s i (undotted_none neg p w.end (Marked d) d refl f))
+        go Bad i = none_told (decimal_no neg t p w.end h.2 None Bad s i (undotted_bad neg p w.end Bad refl))
 
     pub plain_bad : Bad ≡ suffix w.end (drop w.end t) → judged t outside ≡ told t (one_decimal t)
-    plain_bad i = none_told (decimal_no neg t p w.end h.2 NoReal Bad s i (undotted_bad neg p w.end Bad refl))
+    plain_bad i = none_told (decimal_no neg t p w.end h.2 None Bad s i (undotted_bad neg p w.end Bad refl))
 
     plain_marked : (p ≡ w.end → ⊥) → (d : Exponent) → Marked d ≡ suffix w.end (drop w.end t) → (r : Answer)
         → r ≡ suffixed t neg w.value 0 (Marked d) → r ≡ told t (one_decimal t)
@@ -232,5 +231,5 @@ module _ (t : List ℕ) (neg : Bool) (p : ℕ) (w : Run) (h : Passed t neg p w) 
           let l = h.5 in
           simp b
           (judged_good t outside (omega arith) (sym (whole_good t whole))
-          ∙ none_told (decimal_no neg t p w.end h.2 NoReal Empty s (suffix_past t w.end (omega arith))
+          ∙ none_told (decimal_no neg t p w.end h.2 None Empty s (suffix_past t w.end (omega arith))
           (undotted_empty neg p w.end Empty refl)))

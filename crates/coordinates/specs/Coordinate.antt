@@ -1,16 +1,12 @@
 -- A coordinate: a text that is one decimal, as a float of 64 bits. Sentences in quotes are those of the request "Coordinates as numbers".
-use Rattle.std.specs.Prelude.{ℕ, suc, ◌-◌, ◌*◌, ◌^◌, Bool, leb, List, ◌++◌, length, take, drop, ℤ, pos, negsuc, ◌-ℤ◌, nat_eq, nat_le, nat_lt, if◌then◌else◌}
+use Rattle.std.specs.Prelude.{ℕ, suc, ◌-◌, ◌*◌, ◌^◌, Bool, leb, List, ◌++◌, length, take, drop, ℤ, pos, negsuc, ◌-ℤ◌, nat_eq, nat_le, nat_lt, if◌then◌else◌, None, Option, Some}
 use Rattle.std.specs.Float.{binary64}
 use Rattle.std.specs.Float.Ieee.{round}
 use Rattle.refusal.specs.Refusals.{over_long, not_utf8, out_of_bounds, limit, no_coordinate}
-use Rattle.chars.specs.declared.Utf8.{Utf8}
-use Rattle.chars.specs.declared.Utf8.TheVariants as utf8
 use Rattle.chars.specs.Utf8.{first_bad}
 use Rattle.digits.specs.declared.Span.{Span}
 use Rattle.digits.specs.Digits.{value, signed}
 use Rattle.numbers.specs.declared.Point.{Point}
-use Rattle.numbers.specs.declared.MaybePoint.{MaybePoint}
-use Rattle.numbers.specs.declared.MaybePoint.TheVariants.{APoint, NoPoint}
 use Rattle.numbers.specs.Reals.{one_decimal}
 use Rattle.items.specs.Kinds as kind
 use Rattle.coordinates.specs.Answers.{Answer, float, refused}
@@ -61,13 +57,13 @@ unfoldable pub of_point : List ℕ → Point → Answer
 of_point s p = if nat_le (all_digits s p) most_digits then scaled p.negative (all_digits s p) (scale s p) else outside
 
 -- or the text isn't one decimal as 01 has it"
-unfoldable pub of_decimal : List ℕ → MaybePoint → Answer
-of_decimal s (APoint p) = of_point s p
-of_decimal s NoPoint = outside
+unfoldable pub of_decimal : List ℕ → Option Point → Answer
+of_decimal s (Some p) = of_point s p
+of_decimal s None = outside
 
-abbrev pub checked : Utf8 → Answer → Answer
-checked utf8.Good a = a
-checked (utf8.Bad at) a = refused not_utf8 at
+abbrev pub checked : Option ℕ → Answer → Answer
+checked None a = a
+checked (Some at) a = refused not_utf8 at
 
 -- "20 and 21 first": what they leave to a text
 unfoldable pub judged : List ℕ → Answer → Answer

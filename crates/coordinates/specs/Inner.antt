@@ -1,10 +1,9 @@
 -- What the functions within answer.
-use Rattle.std.specs.Prelude.{◌≡◌, ℕ, ◌+◌, ◌^◌, ◌<◌, Bool, false, ◌&&◌, List, length, drop, ℤ, pos, ◌-ℤ◌, neg_ℤ, nat_le, Float, if◌then◌else◌}
+use Rattle.numbers.specs.declared.Point.{Point}
+use Rattle.std.specs.Prelude.{◌≡◌, ℕ, ◌+◌, ◌^◌, ◌<◌, Bool, false, ◌&&◌, List, length, drop, ℤ, pos, ◌-ℤ◌, neg_ℤ, nat_le, Float, if◌then◌else◌, None, Option, Some}
 use Rattle.std.specs.Float.{fin}
 use Rattle.digits.specs.declared.Run.{Run}
 use Rattle.digits.specs.Digits.{digits, sign, negative, value, run_value, short, signed}
-use Rattle.numbers.specs.declared.MaybePoint.{MaybePoint}
-use Rattle.numbers.specs.declared.MaybePoint.TheVariants.{APoint, NoPoint}
 use Rattle.numbers.specs.declared.Suffix.{Suffix}
 use Rattle.numbers.specs.declared.Suffix.TheVariants.{Empty, Marked, Bad}
 use Rattle.numbers.specs.Reals.{one_decimal}
@@ -35,9 +34,9 @@ suffixed s neg m f (Marked e) = weighed neg m (signed e.negative (value 10 0 (sl
 suffixed s neg m f Bad = judged s outside
 
 -- a text that may be one decimal: where it is one it is UTF-8 (proofs/Ascii, decimal-good)
-unfoldable pub told : List ℕ → MaybePoint → Answer
-told s (APoint p) = of_point s p
-told s NoPoint = judged s outside
+unfoldable pub told : List ℕ → Option Point → Answer
+told s (Some p) = of_point s p
+told s None = judged s outside
 
 -- its coordinate, or, where integers are wanted too, its value
 unfoldable pub wanted : Bool → List ℕ → Answer

@@ -8,12 +8,12 @@ ghost use Rattle.coordinates.specs.Inner.{suffixed, told, wanted, Passed};
 
 use crate::runs::{long_run, run};
 use crate::scaling::{divided, multiplied, shifted};
-use crate::{CoordinateAnswer, no_coordinate};
+use crate::{CoordinateError, no_coordinate};
 use digits::{Run, sign_end};
 use numbers::is_marker;
 
 // The answer to a decimal whose exponent's marker stands before a place: its digits have the value m, and f of them are of its fraction.
-fn exponent(t: &[u8], from: usize, neg: bool, m: u64, f: u64) -> CoordinateAnswer
+fn exponent(t: &[u8], from: usize, neg: bool, m: u64, f: u64) -> Result<f64, CoordinateError>
     requires { f < 2 ^ 32 }
     ensures { answered result ≡ suffixed t.now neg m f (exponent from (drop from t.now)) }
 {
@@ -30,7 +30,7 @@ fn exponent(t: &[u8], from: usize, neg: bool, m: u64, f: u64) -> CoordinateAnswe
 }
 
 // The answer to a text with a dot after its first digits.
-fn dotted(t: &[u8], neg: bool, start: usize, whole: Run) -> CoordinateAnswer
+fn dotted(t: &[u8], neg: bool, start: usize, whole: Run) -> Result<f64, CoordinateError>
     requires { Passed t.now neg start whole × (true ≡ starts (code ".") (drop whole.end t.now)) }
     ensures { answered result ≡ told t.now (one_decimal t.now) }
 {
@@ -51,7 +51,13 @@ fn dotted(t: &[u8], neg: bool, start: usize, whole: Run) -> CoordinateAnswer
 }
 
 // The answer to a text without one there. An integer is ASCII, so it need not be asked whether it is UTF-8.
-fn undotted(t: &[u8], neg: bool, start: usize, whole: Run, wholes: bool) -> CoordinateAnswer
+fn undotted(
+    t: &[u8],
+    neg: bool,
+    start: usize,
+    whole: Run,
+    wholes: bool,
+) -> Result<f64, CoordinateError>
     requires { Passed t.now neg start whole × (false ≡ starts (code ".") (drop whole.end t.now)) }
     ensures { answered result ≡ wanted wholes t.now }
 {
@@ -63,7 +69,7 @@ fn undotted(t: &[u8], neg: bool, start: usize, whole: Run, wholes: bool) -> Coor
         if wholes {
             return multiplied(neg, whole.value, 0);
         }
-        return CoordinateAnswer::NoCoordinate;
+        return Err(CoordinateError::NoCoordinate);
     }
     if is_marker(t[end]) {
         return exponent(t, end + 1, neg, whole.value, 0);
@@ -72,7 +78,7 @@ fn undotted(t: &[u8], neg: bool, start: usize, whole: Run, wholes: bool) -> Coor
 }
 
 // The coordinate of a text that is short enough, or, where integers are wanted too, its value.
-pub(crate) fn read(t: &[u8], wholes: bool) -> CoordinateAnswer
+pub(crate) fn read(t: &[u8], wholes: bool) -> Result<f64, CoordinateError>
     requires { length t.now < 2 ^ 32 }
     ensures { answered result ≡ wanted wholes t.now }
 {

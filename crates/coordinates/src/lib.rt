@@ -9,7 +9,6 @@ ghost use Rattle.chars.specs.Utf8.{ascii};
 ghost use Rattle.coordinates.specs.Answers.{answered};
 ghost use Rattle.coordinates.specs.Coordinate.{outside, judged, coordinate, record_coordinate};
 
-use chars::Utf8;
 use decimals::read;
 use digits::SHORT;
 use items::kinds;
@@ -22,11 +21,9 @@ mod values;
 
 pub use values::{record_value, value};
 
-// What the calls answer: specs/Answers gives the number and what comes with it for each case.
+// Why the calls give no value: specs/Answers gives the number and what comes with it for each case.
 #[derive(Clone, Copy)]
-pub enum CoordinateAnswer {
-    // 6892014.7
-    Value(f64),
+pub enum CoordinateError {
     // a text of 4,294,967,296 bytes
     TooLong,
     // the byte FF: the start of the first bad sequence
@@ -41,11 +38,11 @@ pub enum CoordinateAnswer {
 const LAST_ASCII: u8 = 0x7F;
 
 // The coordinate of a text. A decimal is ASCII, so its text need not be asked whether it is UTF-8.
-pub fn coordinate(t: &[u8]) -> CoordinateAnswer
+pub fn coordinate(t: &[u8]) -> Result<f64, CoordinateError>
     ensures { answered result ≡ coordinate t.now }
 {
     if LIMIT < t.len() {
-        return CoordinateAnswer::TooLong;
+        return Err(CoordinateError::TooLong);
     }
     read(t, false)
 }
@@ -54,45 +51,48 @@ pub fn coordinate(t: &[u8]) -> CoordinateAnswer
 fn is_ascii(t: &[u8]) -> bool
     ensures { result ≡ (span ascii t.now == length t.now) }
 {
-    let mut i = 0;
-    while i < t.len() {
-        if LAST_ASCII < t[i] {
+    for &c in t {
+        if LAST_ASCII < c {
             return false;
         }
-        i += 1;
     }
     true
 }
 
 // The answer to a text that has none: 20 and 21 go before 28.
-fn no_coordinate(t: &[u8]) -> CoordinateAnswer
+fn no_coordinate(t: &[u8]) -> Result<f64, CoordinateError>
     ensures { answered result ≡ judged t.now outside }
 {
     if LIMIT < t.len() {
-        return CoordinateAnswer::TooLong;
+        return Err(CoordinateError::TooLong);
     }
     if t.len() <= SHORT {
         if is_ascii(t) {
-            return CoordinateAnswer::NoCoordinate;
+            return Err(CoordinateError::NoCoordinate);
         }
     }
     match chars::first_bad(t) {
-        Utf8::Good => CoordinateAnswer::NoCoordinate,
-        Utf8::Bad(at) => CoordinateAnswer::NotUtf8(at),
+        None => Err(CoordinateError::NoCoordinate),
+        Some(at) => Err(CoordinateError::NotUtf8(at)),
     }
 }
 
 // The coordinate of a record's extent in its source, by the record's kind and its extent's places.
-pub fn record_coordinate(source: &[u8], kind: u32, start: u32, end: u32) -> CoordinateAnswer
+pub fn record_coordinate(
+    source: &[u8],
+    kind: u32,
+    start: u32,
+    end: u32,
+) -> Result<f64, CoordinateError>
     ensures { answered result ≡ record_coordinate source.now kind start end }
 {
     let from = start as usize;
     let to = end as usize;
     if to < from {
-        return CoordinateAnswer::NoExtent;
+        return Err(CoordinateError::NoExtent);
     }
     if source.len() < to {
-        return CoordinateAnswer::NoExtent;
+        return Err(CoordinateError::NoExtent);
     }
     let text = &source[from..to];
     if kind == kinds::NUMBER {

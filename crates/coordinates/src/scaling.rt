@@ -6,7 +6,7 @@ ghost use Rattle.digits.specs.Digits.{short, signed};
 ghost use Rattle.coordinates.specs.Answers.{answered};
 ghost use Rattle.coordinates.specs.Inner.{ten_to, weighed};
 
-use crate::CoordinateAnswer;
+use crate::CoordinateError;
 use crate::runs::MOST_EXACT;
 
 // The largest power of ten that a float has exactly is 10^22.
@@ -58,33 +58,33 @@ fn float(neg: bool, m: u64) -> f64
 }
 
 // m times 10^k.
-pub(crate) fn multiplied(neg: bool, m: u64, k: u64) -> CoordinateAnswer
+pub(crate) fn multiplied(neg: bool, m: u64, k: u64) -> Result<f64, CoordinateError>
     ensures { answered result ≡ weighed neg m (pos k) }
 {
     if MOST_EXACT < m {
-        return CoordinateAnswer::NoCoordinate;
+        return Err(CoordinateError::NoCoordinate);
     }
     if MOST_SCALE < k {
-        return CoordinateAnswer::NoCoordinate;
+        return Err(CoordinateError::NoCoordinate);
     }
-    CoordinateAnswer::Value(float(neg, m) * power(k))
+    Ok(float(neg, m) * power(k))
 }
 
 // m by 10^k.
-pub(crate) fn divided(neg: bool, m: u64, k: u64) -> CoordinateAnswer
+pub(crate) fn divided(neg: bool, m: u64, k: u64) -> Result<f64, CoordinateError>
     ensures { answered result ≡ weighed neg m (neg_ℤ (pos k)) }
 {
     if MOST_EXACT < m {
-        return CoordinateAnswer::NoCoordinate;
+        return Err(CoordinateError::NoCoordinate);
     }
     if MOST_SCALE < k {
-        return CoordinateAnswer::NoCoordinate;
+        return Err(CoordinateError::NoCoordinate);
     }
-    CoordinateAnswer::Value(float(neg, m) / power(k))
+    Ok(float(neg, m) / power(k))
 }
 
 // m with the exponent e (down: its sign is minus) and f fraction digits.
-pub(crate) fn shifted(neg: bool, m: u64, down: bool, e: u64, f: u64) -> CoordinateAnswer
+pub(crate) fn shifted(neg: bool, m: u64, down: bool, e: u64, f: u64) -> Result<f64, CoordinateError>
     requires { (e < 10 ^ short) × (f < 2 ^ 32) }
     ensures { answered result ≡ weighed neg m (signed down e -ℤ pos f) }
 {

@@ -7,31 +7,31 @@ ghost use Rattle.coordinates.specs.Coordinate.{coordinate, record_coordinate};
 ghost use Rattle.coordinates.specs.Values.{record_value};
 ghost use Rattle.coordinates_exports.specs.Told.{number_of, value_or, place_or};
 
-use coordinates::CoordinateAnswer;
+use coordinates::CoordinateError;
 use refusal::{LIMIT_VALUE, NO_COORDINATE, NOT_UTF8, OUT_OF_BOUNDS, SERVED, TOO_LONG};
 
 // A value goes to `value`, what a refusal comes with to `place`; the other keeps what it has. The result is the answer's number.
-fn tell(a: CoordinateAnswer, value: &mut f64, place: &mut u64) -> u32
+fn tell(a: Result<f64, CoordinateError>, value: &mut f64, place: &mut u64) -> u32
     ensures { (result ≡ number_of (answered a)) × (value.new ≡ value_or value.old (answered a)) × (place.new ≡ place_or place.old (answered a)) }
 {
     match a {
-        CoordinateAnswer::Value(x) => {
+        Ok(x) => {
             *value = x;
             SERVED
         }
-        CoordinateAnswer::TooLong => {
+        Err(CoordinateError::TooLong) => {
             *place = LIMIT_VALUE;
             TOO_LONG
         }
-        CoordinateAnswer::NotUtf8(at) => {
+        Err(CoordinateError::NotUtf8(at)) => {
             *place = at as u64;
             NOT_UTF8
         }
-        CoordinateAnswer::NoExtent => {
+        Err(CoordinateError::NoExtent) => {
             *place = 0;
             OUT_OF_BOUNDS
         }
-        CoordinateAnswer::NoCoordinate => {
+        Err(CoordinateError::NoCoordinate) => {
             *place = 0;
             NO_COORDINATE
         }

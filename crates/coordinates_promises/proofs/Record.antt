@@ -3,8 +3,7 @@ use Rattle.std.specs.Prelude.{ℕ, ◌≡◌}
 use Rattle.laws.specs.Quoted.{codes}
 use Rattle.laws.proofs.Choice.{impossible}
 use Rattle.items.specs.Kinds as kind
-use Rattle.coordinates.specs.declared.CoordinateAnswer.{CoordinateAnswer}
-use Rattle.coordinates.specs.Answers.{refused, answered}
+use Rattle.coordinates.specs.Answers.{refused, answered, CoordinateAnswer}
 use Rattle.coordinates.specs.Coordinate.{record_coordinate}
 use Rattle.coordinates_promises.specs.Record.{corner}
 

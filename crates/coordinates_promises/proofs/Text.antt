@@ -4,8 +4,7 @@ use Rattle.std.proofs.Common.{sym, ap, ◌∙◌, arith}
 use Rattle.std.specs.Float.{nan, inf, fin}
 use Rattle.laws.specs.Quoted.{codes}
 use Rattle.laws.proofs.Choice.{impossible}
-use Rattle.coordinates.specs.declared.CoordinateAnswer.{CoordinateAnswer}
-use Rattle.coordinates.specs.Answers.{Answer, float, refused, answered}
+use Rattle.coordinates.specs.Answers.{Answer, float, refused, answered, CoordinateAnswer}
 use Rattle.coordinates.specs.Coordinate.{coordinate}
 use Rattle.coordinates_promises.specs.Text.{largest_power, minus_zero}
 

@@ -10,8 +10,7 @@ use Rattle.chars.specs.Utf8.{first_bad, sequences, front, rest, first}
 use Rattle.digits.specs.Digits.{digit_of, sign, uinteger, value, signed}
 use Rattle.numbers.specs.Reals.{exponent_marker, exponent, suffix, point_of, dotted, undotted, decimal, point_in, one_decimal}
 use Rattle.items.specs.Kinds as kind
-use Rattle.coordinates.specs.declared.CoordinateAnswer.{CoordinateAnswer}
-use Rattle.coordinates.specs.Answers.{float, refused, answered}
+use Rattle.coordinates.specs.Answers.{float, refused, answered, CoordinateAnswer}
 use Rattle.coordinates.specs.Coordinate.{all_digits, scale, scaled, outside, of_point, of_decimal, judged, coordinate, record_coordinate}
 use Rattle.coordinates_promises.specs.Text.{answered_one}
 

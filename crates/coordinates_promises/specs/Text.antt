@@ -1,5 +1,5 @@
 -- The coordinate of a text: `coordinates::coordinate` ensures `answered r ≡ coordinate t`.
-use Rattle.std.specs.Prelude.{ℕ, ◌≡◌, refl, true, false, List, [], ◌∷◌, eqb, pos, if◌then◌else◌}
+use Rattle.std.specs.Prelude.{ℕ, ◌≡◌, refl, true, false, List, [], ◌∷◌, eqb, pos, if◌then◌else◌, Ok, Err}
 use Rattle.std.proofs.Common.{sym, ap, ◌∙◌}
 use Rattle.std.specs.Float.{fin, binary64}
 use Rattle.std.specs.Float.Ieee.{of_bits, round}
@@ -9,9 +9,8 @@ use Rattle.refusal.specs.Refusals.{over_long, not_utf8, out_of_bounds}
 use Rattle.chars.specs.Utf8.{first_bad, sequences, front, rest, first}
 use Rattle.digits.specs.Digits.{digit_of, sign, uinteger, value, signed}
 use Rattle.numbers.specs.Reals.{exponent_marker, exponent, suffix, point_of, dotted, undotted, decimal, point_in, one_decimal}
-use Rattle.coordinates.specs.declared.CoordinateAnswer.{CoordinateAnswer}
-use Rattle.coordinates.specs.declared.CoordinateAnswer.TheVariants as answer
-use Rattle.coordinates.specs.Answers.{Answer, float, refused, answered}
+use Rattle.coordinates.specs.declared.CoordinateError.TheVariants as answer
+use Rattle.coordinates.specs.Answers.{Answer, float, refused, answered, CoordinateAnswer}
 use Rattle.coordinates.specs.Coordinate.{all_digits, scale, scaled, outside, of_point, of_decimal, judged, coordinate}
 
 -- two answers that a contract permits coincide
@@ -19,19 +18,19 @@ pub answered_one : (a b : CoordinateAnswer) → answered a ≡ answered b → a 
 answered_one a b e = sym (back-answered a) ∙ ap back e ∙ back-answered b
   where
     back : Answer → CoordinateAnswer
-    back (float x) = answer.Value x
+    back (float x) = Ok x
     back (refused n p) =
-        if eqb n over_long then answer.TooLong
-        else if eqb n not_utf8 then answer.NotUtf8 p
-        else if eqb n out_of_bounds then answer.NoExtent
-        else answer.NoCoordinate
+        if eqb n over_long then (Err answer.TooLong)
+        else if eqb n not_utf8 then (Err (answer.NotUtf8 p))
+        else if eqb n out_of_bounds then (Err answer.NoExtent)
+        else (Err answer.NoCoordinate)
 
     back-answered : (a : CoordinateAnswer) → back (answered a) ≡ a
-    back-answered (answer.Value x) = refl
-    back-answered answer.TooLong = refl
-    back-answered (answer.NotUtf8 at) = refl
-    back-answered answer.NoExtent = refl
-    back-answered answer.NoCoordinate = refl
+    back-answered (Ok x) = refl
+    back-answered (Err answer.TooLong) = refl
+    back-answered (Err (answer.NotUtf8 at)) = refl
+    back-answered (Err answer.NoExtent) = refl
+    back-answered (Err answer.NoCoordinate) = refl
 
 pub one_answer : (t : List ℕ) (a b : CoordinateAnswer) → answered a ≡ coordinate t → answered b ≡ coordinate t → a ≡ b
 one_answer t a b h k = answered_one a b (h ∙ sym k)

@@ -11,8 +11,7 @@ use Rattle.digits.specs.Digits as digits
 use Rattle.digits.specs.Digits.{digit_of, sign, uinteger, signed}
 use Rattle.numbers.specs.Reals.{exponent_marker, exponent, suffix, point_of, dotted, undotted, decimal, point_in, one_decimal}
 use Rattle.items.specs.Kinds as kind
-use Rattle.coordinates.specs.declared.CoordinateAnswer.{CoordinateAnswer}
-use Rattle.coordinates.specs.Answers.{Answer, float, refused, answered}
+use Rattle.coordinates.specs.Answers.{Answer, float, refused, answered, CoordinateAnswer}
 use Rattle.coordinates.specs.Coordinate.{all_digits, scale, scaled, outside, of_point, of_decimal, judged, coordinate, record_coordinate}
 use Rattle.coordinates.specs.Values.{is_whole, value, record_value}
 use Rattle.coordinates_promises.specs.Text.{answered_one}

@@ -1,7 +1,7 @@
 -- A run of decimal digits read in one pass: from each place on the value of the run is that of all, and it has no more digits than there
 -- are places before.
+use Rattle.std.proofs.Common.{Some}
 use Rattle.digits.specs.declared.Int.TheVariants.{Small}
-use Rattle.digits.specs.declared.MaybeInt.TheVariants.{AnInt}
 use Rattle.digits.specs.Digits.{digits, uinteger, value, run_value, short, signed, top, whole_of}
 use Rattle.digits.proofs.Digits.{digit_decimal, decimal_digit}
 use Rattle.digits.proofs.Integers.{fit_fits, top_le, whole_small}
@@ -75,7 +75,7 @@ short-top neg n e m l f h = lt_of_lt_of_le h (le_trans (ten_le e short (omega ar
 
 -- the integer of digits and nothing else from p on, of the value m
 pub short_whole : (neg : Bool) (p : ℕ) (t : List ℕ) (m : ℕ) (z : ℤ) → true ≡ uinteger 10 (drop p t) → m ≡ run_value 0 (drop p t) → m < top neg
-    → z ≡ signed neg m → AnInt (Small (to_z w64 (of_z w64 z))) ≡ whole_of 10 neg p (drop p t)
+    → z ≡ signed neg m → Some (Small (to_z w64 (of_z w64 z))) ≡ whole_of 10 neg p (drop p t)
 short_whole neg p t m z u v l s =
     let q : m ≡ value 10 0 (drop p t) = v ∙ ap (value 10 0) (take_all (digits 10 (drop p t)) (drop p t) (uinteger-digits 10 (drop p t) u)) in
     whole_small 10 neg p t u m z (rw q (fit_fits (value 10 0 (drop p t)) (omega (arith, top_le neg)))) l s

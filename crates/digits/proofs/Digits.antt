@@ -1,13 +1,16 @@
 -- One digit, a run of digits, a sign: what the definitions say at a place of a text.
 use Rattle.digits.specs.Digits.{no_digit, digit_of, digits, sign, uinteger}
+use Rattle.std.specs.Prelude.{if◌then◌else◌}
+use Rattle.laws.specs.Letters.{is_sign}
 use Rattle.laws.specs.Quoted.{code, within}
-use Rattle.laws.proofs.Choice.{by_bool, if_all, if_is, within_is, impossible}
+use Rattle.laws.proofs.Choice.{by_bool, no_yes, yes_no, if_all, if_is, within_is, impossible}
 use Rattle.laws.proofs.Places.{past, here}
 use Rattle.laws.proofs.Runs.{span_hit, span_stop, span_end}
 use Prim.Native.Nat.{ℕ, ◌+◌, ◌-◌, ◌≤◌, ◌<◌}
-use mathlib.Core.Path.{◌≡◌, sym, ◌∙◌}
-use mathlib.Core.Bool.{true, false}
+use mathlib.Core.Path.{◌≡◌, refl, sym, ap, ◌∙◌}
+use mathlib.Core.Bool.{Bool, true, false, ◌||◌}
 use mathlib.Core.List.{List}
+use mathlib.Core.Logic.{◌⊎◌, inl, inr}
 use lib.ListN.{length, get_or, drop, length-drop}
 use lib.Dec.{eqb, leb, ltb}
 use native.Mathlib.Omega.{arith}
@@ -76,6 +79,28 @@ module _ (t : List ℕ) (i : ℕ) (h : i < length t) where
   pub decimal_stop : false ≡ within (code "0") (code "9") (get_or t i 0) → i + digits 10 (drop i t) ≡ i
   decimal_stop e = span_stop (λ c. ltb (digit_of c) 10) t i h (decimal_digit (get_or t i 0) ∙ sym e)
 
+-- what the test of a sign tells
+pub is_sign_told : (c : ℕ) → true ≡ is_sign c → (c ≡ code "+") ⊎ (c ≡ code "-")
+unfolding is_sign
+is_sign_told c h = by_bool (eqb c (code "+"))
+    (λ e. inl (eqb-true c (code "+") e))
+    (λ e. inr (eqb-true c (code "-") (sym (simp e at h))))
+
+pub no_sign_told : (c : ℕ) → false ≡ is_sign c → (c ≡ code "+" → ⊥) × (c ≡ code "-" → ⊥)
+unfolding is_sign
+no_sign_told c h = ((λ e. no_yes (rw e at h)), (λ e. no_yes (rw e at h)))
+
+-- a sign takes one character, and any other none
+one_sign : (x y : Bool) → true ≡ (x || y) → ◌≡◌ {A = ℕ} 1 (if x then 1 else if y then 1 else 0)
+one_sign true y e = refl
+one_sign false true e = refl
+one_sign false false e = yes_no e
+
+no_sign : (x y : Bool) → false ≡ (x || y) → ◌≡◌ {A = ℕ} (if x then 1 else if y then 1 else 0) 0
+no_sign true y e = no_yes e
+no_sign false true e = no_yes e
+no_sign false false e = refl
+
 -- the sign at a place
 module _ (t : List ℕ) (i : ℕ) where
   pub sign_past : length t ≤ i → i ≡ i + sign (drop i t)
@@ -83,15 +108,15 @@ module _ (t : List ℕ) (i : ℕ) where
   sign_past h = simp (past t i h) (omega arith)
 
   module _ (h : i < length t) where
-    pub sign_plus : get_or t i 0 ≡ code "+" → i + 1 ≡ i + sign (drop i t)
-    unfolding sign
-    sign_plus e = simp (here t i h, e)
+    pub sign_is : true ≡ is_sign (get_or t i 0) → i + 1 ≡ i + sign (drop i t)
+    unfolding sign is_sign
+    sign_is e = rw (here t i h) (ap (λ n. i + n) (one_sign _ _ e))
+
+    pub sign_not : false ≡ is_sign (get_or t i 0) → i ≡ i + sign (drop i t)
+    unfolding sign is_sign
+    sign_not e = rw (here t i h) (rw (no_sign (eqb (get_or t i 0) (code "+")) (eqb (get_or t i 0) (code "-")) e) (omega arith))
 
     module _ (n : get_or t i 0 ≡ code "+" → ⊥) where
-      pub sign_minus : get_or t i 0 ≡ code "-" → i + 1 ≡ i + sign (drop i t)
-      unfolding sign
-      sign_minus e = simp (here t i h, e)
-
       pub sign_none : (get_or t i 0 ≡ code "-" → ⊥) → i ≡ i + sign (drop i t)
       unfolding sign
       sign_none m = simp (here t i h, ne_eqb _ (code "+") n, ne_eqb _ (code "-") m) (omega arith)

@@ -1,8 +1,7 @@
 -- The value of digits, read left to right, and the integer that they are.
+use Rattle.std.proofs.Common.{None, Option, Some}
+use Rattle.digits.specs.declared.Int.{Int}
 use Rattle.digits.specs.declared.Int.TheVariants.{Small, Big}
-use Rattle.digits.specs.declared.MaybeInt.{MaybeInt}
-use Rattle.digits.specs.declared.MaybeInt.TheVariants.{AnInt, NoInt}
-use Rattle.digits.specs.declared.Magnitude.TheVariants.{Fits, Large}
 use Rattle.digits.specs.Digits.{no_digit, digit_of, sign, uinteger, value, fit, signed, top, whole_of, integer}
 use Rattle.digits.proofs.Digits.{digit_le, uinteger_in}
 use Rattle.laws.specs.Quoted.{code}
@@ -59,21 +58,21 @@ product_over R t v i d r l e h =
     rw (value_more R t v i d l e) (le_trans k (value_ge R r (v * R + d) (drop (i + 1) t)))
 
 module _ (n : ℕ) where
-  pub fit_large : 2 ^ 63 < n → Large ≡ fit n
+  pub fit_large : 2 ^ 63 < n → None ≡ fit n
   unfolding fit
   fit_large h = simp (lt-leb _ _ h)
 
-  pub fit_fits : n ≤ 2 ^ 63 → Fits n ≡ fit n
+  pub fit_fits : n ≤ 2 ^ 63 → Some n ≡ fit n
   unfolding fit
   fit_fits h = simp (le-leb _ _ h)
 
-  pub fit_is : (m : ℕ) → Fits m ≡ fit n → m ≡ n
+  pub fit_is : (m : ℕ) → Some m ≡ fit n → m ≡ n
   fit_is m h =
       by_bool (leb n (2 ^ 63))
       (λ e. let f = fit_fits (leb-true _ _ e) in cc)
       (λ e. let f = fit_large (leb-false _ _ e) in cc)
 
-  pub fit_not : Large ≡ fit n → 2 ^ 63 < n
+  pub fit_not : None ≡ fit n → 2 ^ 63 < n
   fit_not h =
       by_bool (leb n (2 ^ 63))
       (λ e. let f = fit_fits (leb-true _ _ e) in impossible cc)
@@ -110,30 +109,30 @@ top_le false = lit≤ tt
 
 -- the digits from a place on
 module _ (R : ℕ) (neg : Bool) (p : ℕ) (t : List ℕ) where
-  pub whole_no : false ≡ uinteger R (drop p t) → NoInt ≡ whole_of R neg p (drop p t)
+  pub whole_no : false ≡ uinteger R (drop p t) → None ≡ whole_of R neg p (drop p t)
   unfolding whole_of
   whole_no h = simp (← h)
 
   module _ (u : true ≡ uinteger R (drop p t)) where
     -- z is kept as its 64 bits
-    pub whole_small : (m : ℕ) (z : ℤ) → Fits m ≡ fit (value R 0 (drop p t)) → m < top neg → z ≡ signed neg m
-        → AnInt (Small (to_z w64 (of_z w64 z))) ≡ whole_of R neg p (drop p t)
+    pub whole_small : (m : ℕ) (z : ℤ) → Some m ≡ fit (value R 0 (drop p t)) → m < top neg → z ≡ signed neg m
+        → Some (Small (to_z w64 (of_z w64 z))) ≡ whole_of R neg p (drop p t)
     unfolding whole_of
     whole_small m z f l k = rw (k, to_z-of_z (signed_fits neg m l)) (let e = fit_is _ m f in simp (← u, ← e, lt-ltb m (top neg) l))
 
-    big : top neg ≤ value R 0 (drop p t) → AnInt (Big neg (record { start = p; end = length t })) ≡ whole_of R neg p (drop p t)
+    big : top neg ≤ value R 0 (drop p t) → Some (Big neg (record { start = p; end = length t })) ≡ whole_of R neg p (drop p t)
     unfolding whole_of
     big l = simp (← u, le-ltb (value R 0 (drop p t)) (top neg) l, uinteger_in R t p u)
 
-    pub whole_big : (m : ℕ) → Fits m ≡ fit (value R 0 (drop p t)) → top neg ≤ m
-        → AnInt (Big neg (record { start = p; end = length t })) ≡ whole_of R neg p (drop p t)
+    pub whole_big : (m : ℕ) → Some m ≡ fit (value R 0 (drop p t)) → top neg ≤ m
+        → Some (Big neg (record { start = p; end = length t })) ≡ whole_of R neg p (drop p t)
     whole_big m f l = big (rw (fit_is _ m f) at l)
 
-    pub whole_large : Large ≡ fit (value R 0 (drop p t)) → AnInt (Big neg (record { start = p; end = length t })) ≡ whole_of R neg p (drop p t)
+    pub whole_large : None ≡ fit (value R 0 (drop p t)) → Some (Big neg (record { start = p; end = length t })) ≡ whole_of R neg p (drop p t)
     whole_large f = big (omega (arith, fit_not _ f, top_le neg))
 
 -- a sign, then the digits
-pub integer_is : (R p : ℕ) (t : List ℕ) (neg : Bool) (a : ℕ) (r : MaybeInt) → neg ≡ starts (code "-") (drop p t) → a ≡ p + sign (drop p t)
+pub integer_is : (R p : ℕ) (t : List ℕ) (neg : Bool) (a : ℕ) (r : Option Int) → neg ≡ starts (code "-") (drop p t) → a ≡ p + sign (drop p t)
     → r ≡ whole_of R neg a (drop a t) → r ≡ integer R p (drop p t)
 unfolding integer
 integer_is R p t neg a r n e h = cc (cut_at t p (sign (drop p t)) a e)

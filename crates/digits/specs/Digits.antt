@@ -1,14 +1,11 @@
 -- Digits, signs and integers: R7RS 7.1.1's <digit R>, <sign> and <uinteger R>, and document 01's rule "Integer".
 -- s is a part of a text as a list of bytes, p the place of the text where that part starts, R the radix.
-use Rattle.std.specs.Prelude.{ℕ, ◌+◌, ◌-◌, ◌*◌, ◌^◌, Bool, true, false, ◌&&◌, List, [], ◌∷◌, length, take, drop, ltb, leb, eqb, ℤ, pos, neg_ℤ, if◌then◌else◌}
+use Rattle.digits.specs.declared.Int.{Int}
+use Rattle.std.specs.Prelude.{ℕ, ◌+◌, ◌-◌, ◌*◌, ◌^◌, Bool, true, false, ◌&&◌, List, [], ◌∷◌, length, take, drop, ltb, leb, eqb, ℤ, pos, neg_ℤ, if◌then◌else◌, None, Option, Some}
 use Rattle.laws.specs.Quoted.{code, within}
 use Rattle.laws.specs.Texts.{span, starts}
 use Rattle.digits.specs.declared.Span.{Span}
 use Rattle.digits.specs.declared.Int.TheVariants.{Small, Big}
-use Rattle.digits.specs.declared.MaybeInt.{MaybeInt}
-use Rattle.digits.specs.declared.MaybeInt.TheVariants.{AnInt, NoInt}
-use Rattle.digits.specs.declared.Magnitude.{Magnitude}
-use Rattle.digits.specs.declared.Magnitude.TheVariants.{Fits, Large}
 
 -- what stands for the digit of a character that is none: a digit of no radix
 abbrev pub no_digit : ℕ
@@ -56,8 +53,8 @@ abbrev pub short_in_any : ℕ
 short_in_any = 15
 
 -- a magnitude that may be that of a signed 64-bit number
-unfoldable pub fit : ℕ → Magnitude
-fit n = if leb n (2 ^ 63) then Fits n else Large
+unfoldable pub fit : ℕ → Option ℕ
+fit n = if leb n (2 ^ 63) then Some n else None
 
 unfoldable pub signed : Bool → ℕ → ℤ
 signed false n = pos n
@@ -73,14 +70,14 @@ abbrev pub span_at : ℕ → ℕ → Span
 span_at p n = record { start = p; end = p + n }
 
 -- <uinteger R> after its sign: "Small within signed 64 bits, else Big with its digit places" (01, Integer)
-unfoldable pub whole_of : ℕ → Bool → ℕ → List ℕ → MaybeInt
+unfoldable pub whole_of : ℕ → Bool → ℕ → List ℕ → Option Int
 whole_of R neg p s =
     if uinteger R s
-    then AnInt (if ltb (value R 0 s) (top neg) then Small (signed neg (value R 0 s)) else Big neg (span_at p (length s)))
-    else NoInt
+    then Some (if ltb (value R 0 s) (top neg) then Small (signed neg (value R 0 s)) else Big neg (span_at p (length s)))
+    else None
 
 -- <sign> <uinteger R>: "an optional sign, then one or more digits of the radix" (01, Integer)
-unfoldable pub integer : ℕ → ℕ → List ℕ → MaybeInt
+unfoldable pub integer : ℕ → ℕ → List ℕ → Option Int
 integer R p s = whole_of R (negative s) (p + sign s) (drop (sign s) s)
 
 -- whether all of s are zeros: "zero denominator means all digits zero" (01)

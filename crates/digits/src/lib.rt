@@ -3,9 +3,11 @@
 // text starts, so that an index is a place of the text, and the place where the part starts. Internal: the number call is in `numbers`.
 #![tactic(auto)]
 
-ghost use Rattle.std.specs.Prelude.{◌≡◌, ◌+◌, ◌^◌, ◌≤◌, ◌<◌, length, drop};
-ghost use Rattle.laws.specs.Quoted.{within};
+ghost use Rattle.std.specs.Prelude.{◌≡◌, ◌+◌, ◌^◌, ◌≤◌, ◌<◌, ltb, length, drop};
+ghost use Rattle.laws.specs.Letters.{is_sign};
 ghost use Rattle.digits.specs.Digits.{digit_of, digits, sign, uinteger, value, run_value, short, short_in_any, fit, signed, top, whole_of, integer};
+
+use byte_runs::{ByteClass, between, bytes_end};
 
 mod hexadecimal;
 
@@ -32,24 +34,11 @@ pub enum Int {
     Big(bool, Span),
 }
 
+// What is wrong with hexadecimal digits: the detail of error 11, as a record has it, and at which place of their text.
 #[derive(Clone, Copy)]
-pub enum MaybeInt {
-    AnInt(Int),
-    NoInt,
-}
-
-// The value of digits without their sign, where it is at most 2^63: Large is 9223372036854775809.
-#[derive(Clone, Copy)]
-enum Magnitude {
-    Fits(u64),
-    Large,
-}
-
-// Hexadecimal digits: their value, or what is wrong with them (the detail of error 11) and at which place of their text.
-#[derive(Clone, Copy)]
-pub enum Hex {
-    Value(u32),
-    Wrong(u32, usize),
+pub struct HexError {
+    pub detail: u32,
+    pub place: usize,
 }
 
 // The digit of a byte that is none, a digit of no radix.
@@ -72,60 +61,56 @@ const TOP: u64 = 0x8000_0000_0000_0000;
 
 const NEGATIVE_TOP: u64 = 0x8000_0000_0000_0001;
 
-// Whether c is one of the bytes from a to b.
-fn within(a: u8, b: u8, c: u8) -> bool
-    ensures { result ≡ within a b c }
-{
-    if c < a {
-        return false;
-    }
-    c <= b
-}
-
 // A digit's value.
 pub fn digit(c: u8) -> u64
     ensures { result ≡ digit_of c }
 {
-    if within(b'0', b'9', c) {
-        return (c - b'0') as u64;
+    match c {
+        b'0'..=b'9' => (c - b'0') as u64,
+        b'A'..=b'F' => (c - b'A') as u64 + LETTER,
+        b'a'..=b'f' => (c - b'a') as u64 + LETTER,
+        _ => NO_DIGIT,
     }
-    if within(b'A', b'F', c) {
-        return (c - b'A') as u64 + LETTER;
+}
+
+// The digits of a radix.
+#[derive(Clone, Copy)]
+struct DigitOf {
+    radix: u64,
+}
+
+impl ByteClass for DigitOf {
+    ghost passes = { λ s c. ltb (digit_of c) s.radix };
+
+    fn ends(self, c: u8) -> bool {
+        self.radix <= digit(c)
     }
-    if within(b'a', b'f', c) {
-        return (c - b'a') as u64 + LETTER;
+}
+
+// The decimal digits, with one test a byte.
+#[derive(Clone, Copy)]
+struct Decimal;
+
+impl ByteClass for Decimal {
+    ghost passes = { λ s c. ltb (digit_of c) 10 };
+
+    fn ends(self, c: u8) -> bool {
+        !between(b'0', b'9', c)
     }
-    NO_DIGIT
 }
 
 // Where the run of digits from a place on ends.
 pub fn run_end(t: &[u8], from: usize, radix: u64) -> usize
     ensures { result ≡ from + digits radix (drop from t.now) }
 {
-    let mut i = from;
-    while i < t.len() {
-        let d = digit(t[i]);
-        if radix <= d {
-            return i;
-        }
-        i += 1;
-    }
-    i
+    bytes_end(t, from, DigitOf { radix })
 }
 
 // Where the run of decimal digits from a place on ends, with one test a byte.
 pub fn decimal_end(t: &[u8], from: usize) -> usize
     ensures { result ≡ from + digits 10 (drop from t.now) }
 {
-    let mut i = from;
-    while i < t.len() {
-        if within(b'0', b'9', t[i]) {
-            i += 1;
-        } else {
-            return i;
-        }
-    }
-    i
+    bytes_end(t, from, Decimal)
 }
 
 // The run of decimal digits from a place on in a short text, after digits of the value before that stand before the place.
@@ -137,7 +122,7 @@ pub fn decimal_run(t: &[u8], from: usize, before: u64) -> Run
     let mut i = from;
     while i < t.len() {
         let c = t[i];
-        if within(b'0', b'9', c) {
+        if between(b'0', b'9', c) {
             v = v * DECIMAL_RADIX + (c - b'0') as u64;
             i += 1;
         } else {
@@ -165,6 +150,13 @@ pub fn short_run(t: &[u8], from: usize, radix: u64) -> Run
     Run { end: i, value: v }
 }
 
+// Whether a byte is a sign.
+pub fn is_sign(c: u8) -> bool
+    ensures { result ≡ is_sign c }
+{
+    matches!(c, b'+' | b'-')
+}
+
 // Where the sign at a place ends, if one is there.
 pub fn sign_end(t: &[u8], from: usize) -> usize
     ensures { result ≡ from + sign (drop from t.now) }
@@ -172,11 +164,7 @@ pub fn sign_end(t: &[u8], from: usize) -> usize
     if t.len() <= from {
         return from;
     }
-    let c = t[from];
-    if c == b'+' {
-        return from + 1;
-    }
-    if c == b'-' {
+    if is_sign(t[from]) {
         return from + 1;
     }
     from
@@ -194,21 +182,19 @@ pub fn unsigned(t: &[u8], from: usize, radix: u64) -> bool
 }
 
 // The value of the digits from a place on.
-fn magnitude_at(t: &[u8], from: usize, radix: u64) -> Magnitude
+fn magnitude_at(t: &[u8], from: usize, radix: u64) -> Option<u64>
     requires { (1 ≤ radix) × (radix ≤ 16) }
     ensures { result ≡ fit (value radix 0 (drop from t.now)) }
 {
     let mut v: u64 = 0;
-    let mut i = from;
-    while i < t.len() {
+    for i in from..t.len() {
         let d = digit(t[i]);
         if (TOP - d) / radix < v {
-            return Magnitude::Large;
+            return None;
         }
         v = v * radix + d;
-        i += 1;
     }
-    Magnitude::Fits(v)
+    Some(v)
 }
 
 // The signed number of a magnitude.
@@ -236,29 +222,29 @@ fn top_of(neg: bool) -> u64
 }
 
 // The integer of the digits from a place on, after its sign.
-pub fn whole(t: &[u8], from: usize, radix: u64, neg: bool) -> MaybeInt
+pub fn whole(t: &[u8], from: usize, radix: u64, neg: bool) -> Option<Int>
     requires { (1 ≤ radix) × (radix ≤ 16) }
     ensures { result ≡ whole_of radix neg from (drop from t.now) }
 {
     if unsigned(t, from, radix) {
         let end = t.len();
         match magnitude_at(t, from, radix) {
-            Magnitude::Fits(m) => {
+            Some(m) => {
                 if m < top_of(neg) {
-                    MaybeInt::AnInt(Int::Small(small(neg, m)))
+                    Some(Int::Small(small(neg, m)))
                 } else {
-                    MaybeInt::AnInt(Int::Big(neg, Span { start: from, end }))
+                    Some(Int::Big(neg, Span { start: from, end }))
                 }
             }
-            Magnitude::Large => MaybeInt::AnInt(Int::Big(neg, Span { start: from, end })),
+            None => Some(Int::Big(neg, Span { start: from, end })),
         }
     } else {
-        MaybeInt::NoInt
+        None
     }
 }
 
 // The integer from a place on: an optional sign, then digits.
-pub fn integer(t: &[u8], from: usize, radix: u64) -> MaybeInt
+pub fn integer(t: &[u8], from: usize, radix: u64) -> Option<Int>
     requires { (1 ≤ radix) × (radix ≤ 16) }
     ensures { result ≡ integer radix from (drop from t.now) }
 {

@@ -1,10 +1,9 @@
 -- What the decoder's functions say of an element. A means of proof: the contracts of `decode` and `decoded_length` cite `unescape` alone.
-use Rattle.std.specs.Prelude.{ℕ, ◌≤◌, ◌≡◌, Bool, true, List, [], ◌∷◌, ◌++◌, length, drop, eqb, if◌then◌else◌}
+use Rattle.std.specs.Prelude.{ℕ, ◌≤◌, ◌≡◌, Bool, true, List, [], ◌∷◌, ◌++◌, length, drop, eqb, if◌then◌else◌, Err, Ok, Result}
 use Rattle.laws.specs.Quoted.{code}
 use Rattle.chars.specs.Encode.{encode, is_scalar}
 use Rattle.items.specs.declared.Quotes.{Quotes}
-use Rattle.items.specs.declared.CharValue.{CharValue}
-use Rattle.items.specs.declared.CharValue.TheVariants.{Scalar, Wrong, WrongAt}
+use Rattle.items.specs.declared.CharError.{CharError}
 use Rattle.items.specs.Meaning.{unescape, unescape_trim}
 use Rattle.escapes.specs.declared.ElementValue.{ElementValue}
 use Rattle.escapes.specs.declared.ElementValue.TheVariants.{Nothing, Byte, Code}
@@ -25,10 +24,9 @@ sound (Byte b) = true
 sound (Code c) = is_scalar c
 
 -- at the closer of a hex escape
-abbrev pub closed_hex : CharValue → ℕ → ℕ → Element
-closed_hex (Scalar c) next end = element (Code c) next
-closed_hex (Wrong n d) next end = element Nothing end
-closed_hex (WrongAt n d p) next end = element Nothing end
+abbrev pub closed_hex : Result ℕ CharError → ℕ → ℕ → Element
+closed_hex (Ok c) next end = element (Code c) next
+closed_hex (Err e) next end = element Nothing end
 
 abbrev pub is_space : ℕ → Bool
 is_space c = if eqb c (code " ") then true else eqb c (code "\t")

@@ -8,9 +8,9 @@ ghost use Rattle.items.specs.Meaning.{unescape, unescape_next, unescape_brace, u
 ghost use Rattle.escapes.specs.Elements.{element, closed_hex, is_space, GoesOn, Unescapes};
 
 use crate::{Element, ElementValue};
-use byte_runs::starts_at;
+use byte_runs::{ByteClass, bytes_end, starts_at};
 use digits::hex_value;
-use items::{CharValue, Quotes};
+use items::Quotes;
 use spellings::characters::scalar_of;
 
 const ALARM: u8 = 0x07;
@@ -58,9 +58,8 @@ fn closed_hex(digits: &[u8], next: usize, end: usize) -> Element
     ensures { result ≡ closed_hex (scalar_of (hex_value digits.now)) next end }
 {
     match scalar_of(hex_value(digits)) {
-        CharValue::Scalar(c) => give(ElementValue::Code(c), next),
-        CharValue::Wrong(_, _) => give(ElementValue::Nothing, end),
-        CharValue::WrongAt(_, _, _) => give(ElementValue::Nothing, end),
+        Ok(c) => give(ElementValue::Code(c), next),
+        Err(_) => give(ElementValue::Nothing, end),
     }
 }
 
@@ -69,8 +68,7 @@ fn read_hex(raw: &[u8], from: usize, closer: u8, k: Quotes) -> Element
     requires { from ≤ length raw.now }
     ensures { Unescapes k raw.now (unescape_hex k closer [] (drop from raw.now)) from result }
 {
-    let mut i = from;
-    while i < raw.len() {
+    for i in from..raw.len() {
         let b = raw[i];
         if b == closer {
             return closed_hex(&raw[from..i], i + 1, raw.len());
@@ -81,7 +79,6 @@ fn read_hex(raw: &[u8], from: usize, closer: u8, k: Quotes) -> Element
         if b == delimiter(k) {
             return give(ElementValue::Nothing, raw.len());
         }
-        i += 1;
     }
     give(ElementValue::Nothing, raw.len())
 }
@@ -97,28 +94,23 @@ fn read_brace(raw: &[u8], from: usize, k: Quotes) -> Element
     read_hex(raw, from, b';', k)
 }
 
-// Whether a byte may stand around the newline of a line that goes on.
-fn is_space(b: u8) -> bool
-    ensures { result ≡ is_space b }
-{
-    if b == b' ' {
-        return true;
+// The bytes that may stand around the newline of a line that goes on: spaces and tabs.
+#[derive(Clone, Copy)]
+struct Space;
+
+impl ByteClass for Space {
+    ghost passes = { λ s c. is_space c };
+
+    fn ends(self, c: u8) -> bool {
+        (c != b' ') & (c != b'\t')
     }
-    b == b'\t'
 }
 
 // The place past the spaces and tabs from a place on.
 fn spaces_end(raw: &[u8], from: usize) -> usize
     ensures { result ≡ from + span is_space (drop from raw.now) }
 {
-    let mut i = from;
-    while i < raw.len() {
-        if !is_space(raw[i]) {
-            return i;
-        }
-        i += 1;
-    }
-    i
+    bytes_end(raw, from, Space)
 }
 
 // Where a line goes on whose newline is to come: past its spaces and tabs, the newline, and those of the next line.

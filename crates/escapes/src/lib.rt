@@ -96,11 +96,7 @@ fn put_run(run: &[u8], free: &mut [u8])
     requires { length run.now ≤ length free.old }
     ensures { free.new ≡ written run.now free.old }
 {
-    let mut i = 0;
-    while i < run.len() {
-        free[i] = run[i];
-        i += 1;
-    }
+    free[..run.len()].copy_from_slice(run);
 }
 
 // Internal. The text of the quoted item `raw` from a place after its opening quote on, written at the start of the free text memory, and

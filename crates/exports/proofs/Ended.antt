@@ -1,6 +1,6 @@
 -- What the quick path writes at the end of the text is what is told there by value.
 use Prim.Native.Nat.{ℕ}
-use mathlib.Core.Path.{◌≡◌, sym, ap, ◌∙◌, subst}
+use mathlib.Core.Path.{◌≡◌, sym, ap, ◌∙◌}
 use mathlib.Core.List.{List, [], ◌∷◌}
 use lib.ListN.{length, set}
 use Rattle.laws.specs.Lent.{written}
@@ -8,7 +8,7 @@ use Rattle.chars.specs.Encode.{lay}
 use Rattle.pieces.specs.declared.Got.{Got}
 use Rattle.pieces_calls.specs.Answers.{what_of}
 use Rattle.pieces_lent.specs.declared.Words.{Words}
-use Rattle.pieces_lent.specs.Calls.{Said, lent, end_for}
+use Rattle.pieces_lent.specs.Calls.{lent, end_for}
 use Rattle.pieces_last.specs.Ends.{with_end, Closing, last_words}
 use Rattle.exports.specs.Piece.{listed, words_in, state_words, Memory, Left, gives, memory, what_number, what_place, record_after}
 use Rattle.exports.specs.Ended.{end_placed, TellsEnd}

@@ -1,15 +1,13 @@
 -- Answers about characters as plain numbers, which is all that C passes on.
-use Rattle.std.specs.Prelude.{ℕ}
+use Rattle.std.specs.Prelude.{ℕ, None, Option, Some}
 use Rattle.chars.specs.declared.Decoded.{Decoded}
 use Rattle.chars.specs.declared.Decoded.TheVariants as decoded
-use Rattle.chars.specs.declared.Utf8.{Utf8}
-use Rattle.chars.specs.declared.Utf8.TheVariants as utf8
 
 -- Where a text of n bytes stops being UTF-8: the start of its first bad sequence, or n. A sequence starts before the end, so the two
 -- are never the same.
-abbrev pub good_bytes : ℕ → Utf8 → ℕ
-good_bytes n utf8.Good = n
-good_bytes n (utf8.Bad at) = at
+abbrev pub good_bytes : ℕ → Option ℕ → ℕ
+good_bytes n None = n
+good_bytes n (Some at) = at
 
 -- What stands at a place: a character's code point, or one of three numbers past all code points.
 abbrev pub code_or : Decoded → ℕ

@@ -37,20 +37,14 @@ const ONE_RECORD: u64 = 1;
 fn is_state(bytes: usize, words: usize) -> bool
     ensures { result ≡ is_a_state bytes words }
 {
-    if bytes != STATE_BYTES {
-        return false;
-    }
-    words == STATE_WORDS
+    bytes == STATE_BYTES && words == STATE_WORDS
 }
 
 // Whether there is room for a record and for two values.
 fn is_room(item: usize, values: usize) -> bool
     ensures { result ≡ is_room item values }
 {
-    if item < RECORD_WORDS {
-        return false;
-    }
-    VALUES <= values
+    RECORD_WORDS <= item && VALUES <= values
 }
 
 // The words of a state.
@@ -162,12 +156,10 @@ fn tell(told: Told, words: &mut [u64], item: &mut [u32], values: &mut [u64]) -> 
     ensures { (buf text old : List ℕ) → left result (memory buf words.new (text_after (what_of told.got text) old) item.new values.new)
         ≡ gives (memory buf words.old old item.old values.old) (said told buf text) }
 {
-    let after = told.words;
-    let got = told.got;
-    put_words(words, after);
-    put_item(item, got);
-    put_values(values, place(got), told.taken as u64);
-    number(got)
+    put_words(words, told.words);
+    put_item(item, told.got);
+    put_values(values, place(told.got), told.taken as u64);
+    number(told.got)
 }
 
 // Opens a state, written to `buf` and `words`: `mode` is 0 for plain and 1 for report; `skip` leaves comments out. A mode that is none is
@@ -179,10 +171,8 @@ pub fn open(mode: u32, skip: bool, buf: &mut [u8], words: &mut [u64]) -> u32
         return OUT_OF_BOUNDS;
     }
     let told = open_words(mode, skip, buf);
-    let after = told.words;
-    let got = told.got;
-    put_words(words, after);
-    start_number(got)
+    put_words(words, told.words);
+    start_number(told.got)
 }
 
 // Reads on in a piece from a place on as the crate `pieces_lent` does; words that are known to be those of a state that reads on are not held to
@@ -226,7 +216,7 @@ fn read_on(
 {
     match quickly(state, buf, piece, text) {
         Reached::More(s) => tell_more(s, state.depth, words, values),
-        Reached::Item(s, depth, record) => tell_item(s, depth, record, words, item, values),
+        Reached::Item(told) => tell_item(told, words, item, values),
         Reached::Before(s) => {
             put_spot(words, s, state.depth);
             read_plainly(buf, words, piece, s.i, true, text, item, values)
@@ -298,9 +288,9 @@ fn end_on(
         (end_for (lent state buf.old) (length text.old)) }
 {
     match end_quickly(state, buf, text) {
-        Last::Given(depth, record) => tell_last(depth, record, words, item, values),
-        Last::Finished => tell_finished(words, values),
-        Last::Not => end_plainly(buf, words, text, item, values),
+        Some(Last::Item(depth, record)) => tell_last(depth, record, words, item, values),
+        Some(Last::Finished) => tell_finished(words, values),
+        None => end_plainly(buf, words, text, item, values),
     }
 }
 

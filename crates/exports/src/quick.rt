@@ -12,6 +12,7 @@ use items::Record;
 use meaning::records::put;
 use pieces::Got;
 use pieces_lent::codes::{IDLE, YES};
+use pieces_quick::QuickItem;
 use pieces_spots::PieceSpot;
 use refusal::{FINISHED, ITEM, MORE};
 
@@ -40,20 +41,13 @@ pub fn tell_more(s: PieceSpot, depth: u64, words: &mut [u64], values: &mut [u64]
 }
 
 // Tells an item by its record, and the spot past it.
-pub fn tell_item(
-    s: PieceSpot,
-    depth: u64,
-    given: Record,
-    words: &mut [u64],
-    item: &mut [u32],
-    values: &mut [u64],
-) -> u32
+pub fn tell_item(told: QuickItem, words: &mut [u64], item: &mut [u32], values: &mut [u64]) -> u32
     requires { (length words.old ≡ state_words) × (record_words ≤ length item.old) }
-    ensures { Tells s depth (Got.Item given) words.old words.new item.old item.new values.old values.new result }
+    ensures { Tells told.spot told.depth (Got.Item told.item) words.old words.new item.old item.new values.old values.new result }
 {
-    put_spot(words, s, depth);
-    put(item, given);
-    put_values(values, 0, s.i as u64);
+    put_spot(words, told.spot, told.depth);
+    put(item, told.item);
+    put_values(values, 0, told.spot.i as u64);
     ITEM
 }
 

@@ -6,7 +6,7 @@ ghost use Rattle.lexer.specs.Answers.{answer_of};
 ghost use Rattle.exports.specs.Read.{read_number, read_values};
 
 use exports_values::put_values;
-use lexer::ReadAnswer;
+use lexer::{Needed, ReadError};
 use refusal::{LIMIT_VALUE, NO_MODE, NOT_UTF8, SERVED, TOO_FEW, TOO_LONG};
 
 // An answer: its number and its two values.
@@ -29,15 +29,15 @@ fn tell(number: u32, first: u64, second: u64) -> NumberAndValues
 }
 
 // An answer by its number and its values.
-fn answer(a: ReadAnswer) -> NumberAndValues
+fn answer(a: Result<Needed, ReadError>) -> NumberAndValues
     ensures { (result.number ≡ read_number (answer_of a)) × (result.first ∷ result.second ∷ [] ≡ read_values (answer_of a)) }
 {
     match a {
-        ReadAnswer::Served(items, bytes) => tell(SERVED, items as u64, bytes as u64),
-        ReadAnswer::NoMode(mode) => tell(NO_MODE, mode as u64, 0),
-        ReadAnswer::TooLong => tell(TOO_LONG, LIMIT_VALUE, 0),
-        ReadAnswer::NotUtf8(at) => tell(NOT_UTF8, at as u64, 0),
-        ReadAnswer::NoRoom(items, bytes) => tell(TOO_FEW, items as u64, bytes as u64),
+        Ok(done) => tell(SERVED, done.items as u64, done.text as u64),
+        Err(ReadError::NoMode(mode)) => tell(NO_MODE, mode as u64, 0),
+        Err(ReadError::TooLong) => tell(TOO_LONG, LIMIT_VALUE, 0),
+        Err(ReadError::NotUtf8(at)) => tell(NOT_UTF8, at as u64, 0),
+        Err(ReadError::NoRoom(needed)) => tell(TOO_FEW, needed.items as u64, needed.text as u64),
     }
 }
 

@@ -5,7 +5,7 @@ ghost use Rattle.chars.specs.Blank.{is_blank};
 ghost use Rattle.chars.specs.Encode.{encode, lay, laid};
 ghost use Rattle.exports.specs.Utf8.{good_bytes, code_or, next_or};
 
-use chars::{Decoded, Utf8};
+use chars::Decoded;
 
 // What `mihadrena_code_at` answers where no character stands.
 const BAD: u32 = 0x110000;
@@ -19,8 +19,8 @@ pub fn mihadrena_good_bytes(text: &[u8]) -> usize
     ensures { result ≡ good_bytes (length text.now) (first_bad text.now) }
 {
     match chars::first_bad(text) {
-        Utf8::Good => text.len(),
-        Utf8::Bad(at) => at,
+        None => text.len(),
+        Some(at) => at,
     }
 }
 

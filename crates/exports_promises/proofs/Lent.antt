@@ -5,7 +5,8 @@ use mathlib.Core.Bool.{Bool}
 use mathlib.Core.List.{List, []}
 use lib.ListN.{length}
 use Rattle.pieces.specs.declared.Got.{Got}
-use Rattle.pieces.specs.declared.Start.{Start}
+use Rattle.std.proofs.Common.{Result}
+use Rattle.pieces.specs.declared.OpenError.{OpenError}
 use Rattle.pieces.specs.Calls.{text_after, open_of}
 use Rattle.pieces_lent.specs.declared.LentState.{LentState}
 use Rattle.pieces_lent.specs.declared.Fresh.{Fresh}
@@ -26,7 +27,7 @@ abbrev taken_by : Said → Taken
 taken_by s = record { taken = s.taken; got = got_of s.what }
 
 fresh_back : (f : Fresh) → fresh_by (freshly f) ≡ f
-fresh_back f = ap (λ (s : Start). record { state = f.state; start = s }) (start_back f.start)
+fresh_back f = ap (λ (s : Result (Unit {0}) OpenError). record { state = f.state; start = s }) (start_back f.start)
 
 told_back : (t : Told) (buf text : List ℕ) → told_by (said t buf text) ≡ t
 told_back t buf text = ap (λ (g : Got). record { words = t.words; taken = t.taken; got = g }) (got_back t.got text)

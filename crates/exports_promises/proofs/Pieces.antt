@@ -13,8 +13,9 @@ use Rattle.pieces.specs.declared.Marks.{Marks}
 use Rattle.pieces.specs.declared.State.{State}
 use Rattle.pieces.specs.declared.Got.{Got}
 use Rattle.pieces.specs.declared.Got.TheVariants.{Item, More, Finished, Refused}
-use Rattle.pieces.specs.declared.Start.{Start}
-use Rattle.pieces.specs.declared.Start.TheVariants as start
+use Rattle.pieces.specs.declared.OpenError.{OpenError}
+use Rattle.pieces.specs.declared.OpenError.TheVariants.{NoMode}
+use Rattle.std.proofs.Common.{Result, Ok, Err}
 use Rattle.pieces.specs.declared.Opened.{Opened}
 use Rattle.pieces.specs.declared.Answer.{Answer}
 use Rattle.pieces.specs.declared.Pieced.{Pieced}
@@ -54,15 +55,15 @@ got_back More text = refl
 got_back Finished text = refl
 got_back (Refused n p) text = refl
 
-abbrev pub started_by : What → Start
-started_by (item g) = start.Ready
-started_by more = start.Ready
-started_by finished = start.Ready
-started_by (refused n p) = start.Refused n p
+abbrev pub started_by : What → Result (Unit {0}) OpenError
+started_by (item g) = Ok tt
+started_by more = Ok tt
+started_by finished = Ok tt
+started_by (refused n p) = Err (NoMode p)
 
-pub start_back : (s : Start) → started_by (start_of s) ≡ s
-start_back start.Ready = refl
-start_back (start.Refused n mode) = refl
+pub start_back : (s : Result (Unit {0}) OpenError) → started_by (start_of s) ≡ s
+start_back (Ok u) = refl
+start_back (Err (NoMode mode)) = refl
 
 abbrev opened_by : Reply → Opened
 opened_by r = record { state = r.state; start = started_by r.what }
@@ -74,7 +75,7 @@ abbrev pieced_by : Reply → Pieced
 pieced_by r = record { marks = r.state.marks; taken = r.taken; got = got_of r.what }
 
 opened_back : (o : Opened) → opened_by (opened o) ≡ o
-opened_back o = ap (λ (s : Start). record { state = o.state; start = s }) (start_back o.start)
+opened_back o = ap (λ (s : Result (Unit {0}) OpenError). record { state = o.state; start = s }) (start_back o.start)
 
 answer_back : (a : Answer) (text : List ℕ) → answer_by (answered a text) ≡ a
 answer_back a text = ap (λ (g : Got). record { state = a.state; taken = a.taken; got = g }) (got_back a.got text)

@@ -9,7 +9,7 @@ use lib.Dec.{eqb, leb, ltb}
 use native.Mathlib.Omega.{arith}
 use borrow.Author.Tests.{eqb-true}
 use Rattle.refusal.specs.Refusals as refusal
-use Rattle.std.specs.Prelude.{if◌then◌else◌}
+use Rattle.std.specs.Prelude.{if◌then◌else◌, None, Option, Some}
 use Rattle.laws.specs.Quoted.{code}
 use Rattle.laws.proofs.Choice.{by_bool, if_all, if_is, and_true}
 use Rattle.chars.specs.declared.Step.{Step}
@@ -25,8 +25,6 @@ use Rattle.items.specs.Kinds as kind
 use Rattle.items.specs.Machine.{step_of, finish_of}
 use Rattle.items.specs.Meaning.{Text, none, source, decoded}
 use Rattle.items.specs.Whole.{limit}
-use Rattle.pieces.specs.declared.Beyond.{Beyond}
-use Rattle.pieces.specs.declared.Beyond.TheVariants.{End, Char}
 use Rattle.pieces.specs.declared.Stage.{Stage}
 use Rattle.pieces.specs.declared.Stage.TheVariants.{Opening, Pound, FirstLine, Idle, Busy, Waiting, Stopped}
 use Rattle.pieces.specs.declared.State.{State}
@@ -70,17 +68,17 @@ given_tells depth raw i = text_told_lem depth raw i i.text
 -- ---- one character
 
 module _ (s : State) where
-  gives_tells : (st : ℕ) (last : Place) (b : Beyond) (l : List Item) → TellsTurn (gives s st last b l)
+  gives_tells : (st : ℕ) (last : Place) (b : Option ℕ) (l : List Item) → TellsTurn (gives s st last b l)
   gives_tells st last b [] = tt
   gives_tells st last b (i ∷ []) = if_all TellsTurn (s.marks.skip && eqb i.kind kind.Comment) tt (given_tells s.marks.depth (item_so_far s).bytes i)
   gives_tells st last b (i ∷ j ∷ is) = given_tells s.marks.depth (item_so_far s).bytes i
 
-  ends_tells : (st : ℕ) (o : Outcome) (b : Beyond) → TellsTurn (ends s st o b)
+  ends_tells : (st : ℕ) (o : Outcome) (b : Option ℕ) → TellsTurn (ends s st o b)
   ends_tells st o b = gives_tells st (range_after (report s) (last_of s) st o (item_so_far s)) b (extent_items (report s) (last_of s) st o (item_so_far s))
 
   next_tells : (st c : ℕ) (n : Next) → TellsTurn (on_next s st c n)
   next_tells st c (Eat p) = if_all TellsTurn (ltb longest (s.marks.len + width c)) (omega arith) tt
-  next_tells st c (Stop o) = ends_tells st o (Char c)
+  next_tells st c (Stop o) = ends_tells st o (Some c)
 
   stage_tells : (b : Stage) (c : ℕ) → TellsTurn (on_stage s b c)
   stage_tells Opening c = tt
@@ -145,13 +143,13 @@ module _ (s : State) where
   end_tells Opening h = if_all TellsReply (eqb s.marks.part.count 0) tt (omega arith)
   end_tells Pound h =
       if_all TellsReply (eqb s.marks.part.count 0)
-      (replied_tells (ends (declared s) 0 (finish_of AfterHash (item_so_far s).bytes) End) (ends_tells (declared s) 0 (finish_of AfterHash (item_so_far s).bytes) End))
+      (replied_tells (ends (declared s) 0 (finish_of AfterHash (item_so_far s).bytes) None) (ends_tells (declared s) 0 (finish_of AfterHash (item_so_far s).bytes) None))
       (omega arith)
   end_tells FirstLine h = if_all TellsReply (eqb s.marks.part.count 0) tt (omega arith)
   end_tells Idle h = if_all TellsReply (eqb s.marks.part.count 0) tt (omega arith)
   end_tells (Busy st p) h =
       if_all TellsReply (eqb s.marks.part.count 0)
-      (replied_tells (ends (declared s) st (finish_of p (item_so_far s).bytes) End) (ends_tells (declared s) st (finish_of p (item_so_far s).bytes) End))
+      (replied_tells (ends (declared s) st (finish_of p (item_so_far s).bytes) None) (ends_tells (declared s) st (finish_of p (item_so_far s).bytes) None))
       (omega arith)
   end_tells (Waiting st b) h = second_tells (declared s) st
   end_tells (Stopped n p) h = stop_tells n p h

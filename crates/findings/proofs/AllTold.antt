@@ -1,4 +1,5 @@
 -- The loop over the rows: what was told is laid, and what is still to tell follows it.
+use Rattle.std.proofs.Common.{None, Option, Some}
 use Prim.Native.Nat.{ℕ, suc, ◌+◌, ◌-◌, ◌*◌, ◌≤◌, ◌<◌}
 use mathlib.Core.Path.{◌≡◌, refl, sym, ap, ◌∙◌}
 use mathlib.Core.List.{List, [], ◌∷◌, ◌++◌, map, append_assoc, append-nil, map-append}
@@ -13,8 +14,6 @@ use Rattle.findings.specs.Told.{told_from, errors_in}
 use Rattle.findings.specs.Laid.{counted, count_on, laid_findings, laid_behind, Telling, telling, all_told}
 use Rattle.findings.specs.declared.Finding.{Finding}
 use Rattle.findings.specs.declared.Counted.{Counted}
-use Rattle.findings.specs.declared.RowTold.{RowTold}
-use Rattle.findings.specs.declared.RowTold.TheVariants.{Nothing, One}
 
 errors_append : (a b : List Finding) → errors_in (a ++ b) ≡ errors_in a + errors_in b
 unfolding errors_in
@@ -34,9 +33,9 @@ unfolding flat
 words_length [] = omega arith
 words_length (f ∷ fs) = length-append (words_of f) (flat (map words_of fs)) ∙ omega (arith, words_length fs)
 
-pub listed_few : (t : RowTold) → length (listed t) ≤ 1
-listed_few Nothing = omega arith
-listed_few (One f) = omega arith
+pub listed_few : (t : Option Finding) → length (listed t) ≤ 1
+listed_few None = omega arith
+listed_few (Some f) = omega arith
 
 -- ---- what was told so far
 
@@ -99,7 +98,7 @@ module _ (f : ℕ → List Finding) (count : ℕ) (old : List ℕ) where
         rw e (held_told g.held)
 
     -- row p tells t, and then u
-    pub rows_turn : (t u : RowTold) {next : List ℕ} {r : Counted} → p < count → f p ≡ listed t ++ listed u
+    pub rows_turn : (t u : Option Finding) {next : List ℕ} {r : Counted} → p < count → f p ≡ listed t ++ listed u
         → Held ((g.done ++ listed t) ++ listed u) old next r → RowByRow f count old next r (p + 1)
     unfolding told_from
     rows_turn t u h e held = record {

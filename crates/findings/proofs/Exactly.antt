@@ -1,4 +1,5 @@
 -- A finding of a plan that is read is told exactly if a row tells it: `told_by_a_row` and `row_is_told`.
+use Rattle.std.proofs.Common.{None, Option, Some}
 use Prim.Native.Nat.{ℕ, zero, suc, ◌+◌, ◌≤◌, ◌<◌}
 use mathlib.Core.Path.{◌≡◌, refl, sym, ap, subst}
 use mathlib.Core.Logic.{◌⊎◌, inl, inr}
@@ -10,7 +11,6 @@ use lib.ListN.{length}
 use borrow.Author.Tests.{eqb-true, eqb-false, le-ltb}
 use Rattle.laws.proofs.Choice.{by_bool}
 use Rattle.chars.specs.Utf8.{first_bad}
-use Rattle.chars.specs.declared.Utf8.TheVariants.{Good}
 use Rattle.items.specs.Whole.{limit}
 use Rattle.nested.specs.Items.{count_of}
 use Rattle.findings_rows.specs.Laid.{flat}
@@ -21,8 +21,6 @@ use Rattle.findings.specs.Slips.{swallower}
 use Rattle.findings.specs.Told.{left_over, row_told, list_told, told_at, told_from, told_of}
 use Rattle.findings.specs.Find.{find_of}
 use Rattle.findings.specs.declared.Finding.{Finding}
-use Rattle.findings.specs.declared.RowTold.{RowTold}
-use Rattle.findings.specs.declared.RowTold.TheVariants.{Nothing, One}
 
 -- ---- among what some rows tell
 
@@ -44,12 +42,12 @@ of_row f (suc n) i {x} m = go (λ k. of_row f n (i + 1) k) (Memᴰ.append_cases 
     go later (inl k) = (i, omega arith, k)
     go later (inr k) = let r = later k in (r.0, omega (arith, r.1), r.2)
 
-in_listed : (t : RowTold) {x : Finding} → t ≡ One x → Memᴰ x (listed t)
+in_listed : (t : Option Finding) {x : Finding} → t ≡ Some x → Memᴰ x (listed t)
 in_listed t e = rw e (Memᴰ.head refl)
 
-of_listed : (t : RowTold) {x : Finding} → Memᴰ x (listed t) → t ≡ One x
-of_listed Nothing m = absurd (Memᴰ.not-nil m)
-of_listed (One f) m = ap One (sym (Memᴰ.eq_of_singleton m))
+of_listed : (t : Option Finding) {x : Finding} → Memᴰ x (listed t) → t ≡ Some x
+of_listed None m = absurd (Memᴰ.not-nil m)
+of_listed (Some f) m = ap Some (sym (Memᴰ.eq_of_singleton m))
 
 -- ---- a plan
 
@@ -59,9 +57,9 @@ module _ (source : List ℕ) where
 
   -- row p tells x: as the finding about lists, or as its own
   abbrev pub Tells : ℕ → Finding → Type 0
-  Tells p x = (list_told (list_of source rows) p ≡ One x) ⊎ (row_told source rows (swallower source rows) (left_over source rows) p ≡ One x)
+  Tells p x = (list_told (list_of source rows) p ≡ Some x) ⊎ (row_told source rows (swallower source rows) (left_over source rows) p ≡ Some x)
 
-  module _ (short : length source ≤ limit) (good : first_bad source ≡ Good) where
+  module _ (short : length source ≤ limit) (good : first_bad source ≡ None) where
     found : find_of source ≡ told_of source rows
     unfolding find_of
     found = rw (le-ltb limit (length source) short, good)

@@ -1,5 +1,6 @@
 -- The search for an odd character, one turn at a time: over a printable character of ASCII, which is never odd, and by what `decode_at`
 -- answers.
+use Rattle.findings.specs.declared.Finding.{Finding}
 use Prim.Native.Nat.{ℕ, ◌+◌, ◌≤◌, ◌<◌}
 use mathlib.Core.Path.{◌≡◌, refl, sym, ap, ◌∙◌}
 use mathlib.Core.Bool.{true, false}
@@ -10,11 +11,11 @@ use lib.Dec.{eqb}
 use lib.ListN.{length, get_or, drop}
 use lib.Seq.{drop-drop}
 use borrow.Author.Tests.{ne_eqb}
-use Rattle.std.specs.Prelude.{if◌then◌else◌}
+use Rattle.std.specs.Prelude.{if◌then◌else◌, None, Option, Some}
 use Rattle.laws.specs.Quoted.{within}
 use Rattle.laws.proofs.Choice.{within_is}
 use Rattle.laws.proofs.Places.{past, here}
-use Rattle.chars.specs.Utf8.{Front, char, bad, cut, none, front, placed, read, sequences}
+use Rattle.chars.specs.Utf8.{Front, char, bad, cut, none, front, placed, sequences}
 use Rattle.chars.specs.declared.Decoded.{Decoded}
 use Rattle.chars.specs.declared.Decoded.TheVariants as decoded
 use Rattle.chars.proofs.Table.{within_below, within_above}
@@ -22,8 +23,6 @@ use Rattle.chars.proofs.Sequences.{sequences-char, sequences-bad, sequences-cut,
 use Rattle.chars.proofs.Round.{one_read}
 use Rattle.findings.specs.Finding.{warning, single}
 use Rattle.findings.specs.Slips.{is_quote, is_dash, is_invisible, odd_code, first_odd}
-use Rattle.findings.specs.declared.RowTold.{RowTold}
-use Rattle.findings.specs.declared.RowTold.TheVariants.{Nothing, One}
 
 -- a printable character of ASCII is not odd
 pub plain_even : (c : ℕ) → within 0x20 0x7E c ≡ true → odd_code c ≡ 0
@@ -50,15 +49,15 @@ plain_even c w =
     )
 
 -- what the characters of s from place i on tell, where the text of s starts at a
-abbrev pub odd_from : List ℕ → ℕ → ℕ → RowTold
+abbrev pub odd_from : List ℕ → ℕ → ℕ → Option Finding
 odd_from s a i = first_odd (sequences 0 (a + i) (drop i s))
 
 -- the same by what stands at i
-abbrev pub odd_said : List ℕ → ℕ → ℕ → Decoded → RowTold
-odd_said s a i (decoded.Char c next) = if eqb (odd_code c) 0 then odd_from s a next else One (single warning (odd_code c) c (a + i) (a + next))
-odd_said s a i decoded.Bad = Nothing
-odd_said s a i decoded.Cut = Nothing
-odd_said s a i decoded.End = Nothing
+abbrev pub odd_said : List ℕ → ℕ → ℕ → Decoded → Option Finding
+odd_said s a i (decoded.Char c next) = if eqb (odd_code c) 0 then odd_from s a next else Some (single warning (odd_code c) c (a + i) (a + next))
+odd_said s a i decoded.Bad = None
+odd_said s a i decoded.Cut = None
+odd_said s a i decoded.End = None
 
 module _ (s : List ℕ) (a i : ℕ) where
   pub odd_turn : {o : Decoded} → o ≡ placed i (front (drop i s)) → odd_from s a i ≡ odd_said s a i o
@@ -80,6 +79,6 @@ module _ (s : List ℕ) (a i : ℕ) where
         let f : front (drop i s) ≡ char b 1 = ap front (here s i h) ∙ rw (← e) (one_read b (drop (i + 1) s) (omega arith)) in
         odd_turn (sym (ap (placed i) f)) ∙ rw (plain_even b w)
 
-  pub odd_end : length s ≤ i → Nothing ≡ odd_from s a i
+  pub odd_end : length s ≤ i → None ≡ odd_from s a i
   unfolding first_odd sequences
   odd_end h = rw (past s i h)

@@ -2,7 +2,6 @@
 use Rattle.std.specs.Prelude.{ℕ, ◌≡◌, refl, List, [], ◌∷◌, map}
 use Prim.Native.String.{String}
 use Rattle.laws.specs.Quoted.{code, codes, within}
-use Rattle.items.specs.Kinds as kind
 use Rattle.laws.specs.Texts.{span, starts, begins, same}
 use Rattle.chars.specs.Encode.{is_scalar, utf8, width, encode, bytes_of}
 use Rattle.chars.specs.Blank.{is_blank}

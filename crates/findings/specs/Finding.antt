@@ -1,8 +1,6 @@
 -- A finding: what a foreman can act on. Seven words: severity, code, detail, place, second place.
-use Rattle.std.specs.Prelude.{ℕ, List, [], ◌∷◌}
+use Rattle.std.specs.Prelude.{ℕ, List, [], ◌∷◌, None, Option, Some}
 use Rattle.findings.specs.declared.Finding.{Finding}
-use Rattle.findings.specs.declared.RowTold.{RowTold}
-use Rattle.findings.specs.declared.RowTold.TheVariants.{Nothing, One}
 
 -- ---- severities
 
@@ -81,6 +79,6 @@ abbrev pub single : ℕ → ℕ → ℕ → ℕ → ℕ → Finding
 single s n d a b = both s n d a b 0 0
 
 -- nothing, or one finding, as a list
-abbrev pub listed : RowTold → List Finding
-listed Nothing = []
-listed (One f) = f ∷ []
+abbrev pub listed : Option Finding → List Finding
+listed None = []
+listed (Some f) = f ∷ []

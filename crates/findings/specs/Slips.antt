@@ -1,5 +1,6 @@
 -- What the warnings are told of: each is a condition on a row and the text.
-use Rattle.std.specs.Prelude.{ℕ, ◌+◌, ◌-◌, Bool, true, false, not, ◌&&◌, ◌||◌, List, [], ◌∷◌, eqb, if◌then◌else◌}
+use Rattle.findings.specs.declared.Finding.{Finding}
+use Rattle.std.specs.Prelude.{ℕ, ◌+◌, ◌-◌, Bool, true, false, not, ◌&&◌, ◌||◌, List, [], ◌∷◌, eqb, if◌then◌else◌, None, Option, Some}
 use Rattle.laws.specs.Quoted.{code, codes, one_of, within}
 use Rattle.chars.specs.Utf8.{Sequence, read, broken, short, sequences}
 use Rattle.items.specs.Kinds as kind
@@ -7,8 +8,6 @@ use Rattle.findings.specs.Finding.{warning, single, no_detail, comma_number, num
 use Rattle.findings.specs.Rows.{byte_at, part, row_at, first_row}
 use Rattle.findings.specs.Lines.{is_newline, is_space}
 use Rattle.findings.specs.declared.Row.{Row}
-use Rattle.findings.specs.declared.RowTold.{RowTold}
-use Rattle.findings.specs.declared.RowTold.TheVariants.{Nothing, One}
 
 -- ---- names
 
@@ -45,13 +44,13 @@ odd_code c =
     else 0
 
 -- the first odd character of some characters
-unfoldable pub first_odd : List Sequence → RowTold
-first_odd [] = Nothing
-first_odd (read c f t ∷ l) = let more = first_odd l in if eqb (odd_code c) 0 then more else One (single warning (odd_code c) c f t)
-first_odd (broken f t ∷ l) = Nothing
-first_odd (short f ∷ l) = Nothing
+unfoldable pub first_odd : List Sequence → Option Finding
+first_odd [] = None
+first_odd (read c f t ∷ l) = let more = first_odd l in if eqb (odd_code c) 0 then more else Some (single warning (odd_code c) c f t)
+first_odd (broken f t ∷ l) = None
+first_odd (short f ∷ l) = None
 
-abbrev pub odd_in : List ℕ → ℕ → ℕ → RowTold
+abbrev pub odd_in : List ℕ → ℕ → ℕ → Option Finding
 odd_in source a b = first_odd (sequences 0 a (part source a b))
 
 abbrev pub is_a_digit : ℕ → Bool
@@ -70,22 +69,22 @@ comma_follows source rows p =
     && is_a_digit (byte_at source rest.start)
 
 -- W01 with the length of what stands before the comma, or W02
-unfoldable pub number_slip : List ℕ → List ℕ → ℕ → RowTold
+unfoldable pub number_slip : List ℕ → List ℕ → ℕ → Option Finding
 number_slip source rows p =
     let r : Row = row_at rows p in
     if like_number source r.start
     then
     (if comma_follows source rows p
-    then One (single warning comma_number (r.end - r.start) r.start (row_at rows (p + 2)).end)
-    else One (single warning number_name no_detail r.start r.end))
-    else Nothing
+    then Some (single warning comma_number (r.end - r.start) r.start (row_at rows (p + 2)).end)
+    else Some (single warning number_name no_detail r.start r.end))
+    else None
 
-abbrev pub or_else : RowTold → RowTold → RowTold
-or_else Nothing other = other
-or_else (One f) other = One f
+abbrev pub or_else : Option Finding → Option Finding → Option Finding
+or_else None other = other
+or_else (Some f) other = Some f
 
 -- "the first of these that holds"
-unfoldable pub name_told : List ℕ → List ℕ → ℕ → RowTold
+unfoldable pub name_told : List ℕ → List ℕ → ℕ → Option Finding
 name_told source rows p = or_else (odd_in source (row_at rows p).start (row_at rows p).end) (number_slip source rows p)
 
 -- ---- texts

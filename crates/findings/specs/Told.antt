@@ -1,5 +1,5 @@
 -- What each row tells, and all that a plan tells: row after row.
-use Rattle.std.specs.Prelude.{ℕ, zero, suc, ◌+◌, Bool, ◌&&◌, List, [], ◌∷◌, ◌++◌, eqb, ltb, if◌then◌else◌}
+use Rattle.std.specs.Prelude.{ℕ, zero, suc, ◌+◌, Bool, ◌&&◌, List, [], ◌∷◌, ◌++◌, eqb, ltb, if◌then◌else◌, None, Option, Some}
 use Rattle.laws.specs.Quoted.{code}
 use Rattle.items.specs.Kinds as kind
 use Rattle.nested.specs.Items.{count_of}
@@ -9,10 +9,7 @@ use Rattle.findings.specs.Lists.{list_of}
 use Rattle.findings.specs.Slips.{is_name, name_told, swallower, ends_otherwise}
 use Rattle.findings.specs.declared.Finding.{Finding}
 use Rattle.findings.specs.declared.Row.{Row}
-use Rattle.findings.specs.declared.RowTold.{RowTold}
-use Rattle.findings.specs.declared.RowTold.TheVariants.{Nothing, One}
 use Rattle.findings.specs.declared.ListTold.{ListTold}
-use Rattle.findings.specs.declared.ListTold.TheVariants.{Silent, At}
 
 -- ---- a text that is not closed
 
@@ -36,49 +33,49 @@ error_end r =
     else r.to
 
 -- an error's row, as it is
-abbrev pub error_of : Row → RowTold
-error_of r = One (single error r.error r.about r.from (error_end r))
+abbrev pub error_of : Row → Option Finding
+error_of r = Some (single error r.error r.about r.from (error_end r))
 
 -- E01 to E13; a left-over quote is told where the closing one is missing
-unfoldable pub error_told : List ℕ → Bool → ℕ → RowTold
-error_told rows left p = if left && eqb (p + 1) (count_of rows) then Nothing else error_of (row_at rows p)
+unfoldable pub error_told : List ℕ → Bool → ℕ → Option Finding
+error_told rows left p = if left && eqb (p + 1) (count_of rows) then None else error_of (row_at rows p)
 
 -- W06; or E02 with the left-over quote. a and b are where the text and the left-over quote start
-unfoldable pub swallow_told : Bool → ℕ → ℕ → RowTold
+unfoldable pub swallow_told : Bool → ℕ → ℕ → Option Finding
 swallow_told left a b =
     if left
-    then One (both error kind.IncompleteString no_detail a (bytes_on 1 a) b (bytes_on 1 b))
-    else One (single warning swallowing no_detail a (bytes_on 1 a))
+    then Some (both error kind.IncompleteString no_detail a (bytes_on 1 a) b (bytes_on 1 b))
+    else Some (single warning swallowing no_detail a (bytes_on 1 a))
 
 -- only the first swallower tells
-unfoldable pub text_told : List ℕ → ℕ → Bool → ℕ → RowTold
-text_told rows first left p = if eqb p first then swallow_told left (row_at rows p).start (last_row rows).start else Nothing
+unfoldable pub text_told : List ℕ → ℕ → Bool → ℕ → Option Finding
+text_told rows first left p = if eqb p first then swallow_told left (row_at rows p).start (last_row rows).start else None
 
 -- W07, with the byte that follows
-unfoldable pub number_told : List ℕ → List ℕ → ℕ → RowTold
+unfoldable pub number_told : List ℕ → List ℕ → ℕ → Option Finding
 number_told source rows p =
     let r : Row = row_at rows p in
-    if ends_otherwise source rows p then One (single warning modes_differ (byte_at source r.end) r.start r.end) else Nothing
+    if ends_otherwise source rows p then Some (single warning modes_differ (byte_at source r.end) r.start r.end) else None
 
-unfoldable pub name_or_nothing : List ℕ → List ℕ → ℕ → RowTold
-name_or_nothing source rows p = if is_name source rows p then name_told source rows p else Nothing
+unfoldable pub name_or_nothing : List ℕ → List ℕ → ℕ → Option Finding
+name_or_nothing source rows p = if is_name source rows p then name_told source rows p else None
 
-unfoldable pub row_told : List ℕ → List ℕ → ℕ → Bool → ℕ → RowTold
+unfoldable pub row_told : List ℕ → List ℕ → ℕ → Bool → ℕ → Option Finding
 row_told source rows first left p =
     let r : Row = row_at rows p in
     if ltb 0 r.error then error_told rows left p
     else if eqb r.kind kind.Identifier then name_or_nothing source rows p
     else if eqb r.kind kind.StringLiteral then text_told rows first left p
     else if eqb r.kind kind.Number then number_told source rows p
-    else Nothing
+    else None
 
 -- the finding about lists, if it is told at row p
-abbrev pub list_told : ListTold → ℕ → RowTold
-list_told Silent p = Nothing
-list_told (At i f) p = if eqb i p then One f else Nothing
+abbrev pub list_told : Option ListTold → ℕ → Option Finding
+list_told None p = None
+list_told (Some t) p = if eqb t.row p then Some t.finding else None
 
 -- the finding about lists goes before the row's own: it starts where the row does
-abbrev pub told_at : List ℕ → List ℕ → ListTold → ℕ → Bool → ℕ → List Finding
+abbrev pub told_at : List ℕ → List ℕ → Option ListTold → ℕ → Bool → ℕ → List Finding
 told_at source rows list first left p = listed (list_told list p) ++ listed (row_told source rows first left p)
 
 -- ---- all rows

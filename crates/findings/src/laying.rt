@@ -6,7 +6,7 @@ ghost use Rattle.findings.specs.Finding.{finding_words, words_of, listed};
 ghost use Rattle.findings.specs.Laid.{count_on, laid_behind, telling};
 
 use crate::codes::{ERROR, FINDING_WORDS};
-use crate::{Counted, Finding, RowTold};
+use crate::{Counted, Finding};
 
 // A finding at the start of lent memory.
 fn put(out: &mut [u32], f: Finding)
@@ -33,16 +33,16 @@ fn lay_one(findings: &mut [u32], n: usize, f: Finding)
 }
 
 // What a row tells, behind what was told before.
-pub fn lay(findings: &mut [u32], n: Counted, t: RowTold) -> Counted
+pub fn lay(findings: &mut [u32], n: Counted, t: Option<Finding>) -> Counted
     requires { (n.findings < 2 ^ 62) × (n.errors ≤ n.findings) }
     ensures { telling result findings.new ≡ telling (count_on n (listed t)) (laid_behind n.findings (listed t) findings.old) }
 {
     match t {
-        RowTold::Nothing => Counted {
+        None => Counted {
             findings: n.findings,
             errors: n.errors,
         },
-        RowTold::One(f) => {
+        Some(f) => {
             lay_one(findings, n.findings, f);
             if f.severity == ERROR {
                 return Counted {

@@ -49,18 +49,11 @@ pub struct Row {
     pub depth: u32,
 }
 
-// What a row tells.
-#[derive(Clone, Copy)]
-pub enum RowTold {
-    Nothing,
-    One(Finding),
-}
-
 // The finding about lists, and the row that tells it.
 #[derive(Clone, Copy)]
-pub enum ListTold {
-    Silent,
-    At(usize, Finding),
+pub struct ListTold {
+    pub row: usize,
+    pub finding: Finding,
 }
 
 // How many findings there are, and how many of them are errors.
@@ -70,11 +63,8 @@ pub struct Counted {
     pub errors: usize,
 }
 
-// What the call answers.
+// Why the call tells nothing, 22: the rows do not fit; so many are needed.
 #[derive(Clone, Copy)]
-pub enum FindAnswer {
-    // 0, with how many findings there are and how many of them are errors
-    Found(usize, usize),
-    // 22, with the rows needed
-    TooFew(usize),
+pub struct TooFew {
+    pub rows: usize,
 }

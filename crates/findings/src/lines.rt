@@ -8,10 +8,7 @@ use crate::rows;
 pub fn is_space(b: u8) -> bool
     ensures { result ≡ is_space b }
 {
-    if b == b' ' {
-        return true;
-    }
-    b == b'\t'
+    matches!(b, b' ' | b'\t')
 }
 
 // Where the line of the place `to` starts, from where that of another place starts. Places rarely go back.
@@ -38,9 +35,7 @@ pub fn line_from(source: &[u8], from: usize, line: usize, to: usize) -> usize
 pub fn first_on_line(source: &[u8], a: usize) -> bool
     ensures { result ≡ first_on_line source.now a }
 {
-    let mut i = a;
-    while 0 < i {
-        i -= 1;
+    for i in (0..a).rev() {
         let b = rows::byte_at(source, i);
         if b == b'\n' {
             return true;

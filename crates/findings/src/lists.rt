@@ -2,23 +2,24 @@
 ghost use Rattle.std.specs.Prelude.{◌≡◌, ◌<◌};
 ghost use Rattle.laws.specs.Quoted.{within};
 ghost use Rattle.items.specs.Kinds as kind;
+ghost use Rattle.nested.specs.Errors.{error_number};
 ghost use Rattle.findings.specs.Rows.{last_before};
-ghost use Rattle.findings.specs.Lists.{at_row, at_rows, is_open, opener, is_dot, is_mark, waits, wrong_close, misplaced_dot, mark_waits, innermost, around, bracket_open, refused_list, list_of};
+ghost use Rattle.findings.specs.Lists.{at_row, at_rows, is_kind, opener, is_mark, waits, wrong_close, misplaced_dot, mark_waits, innermost, around, bracket_open, refused_list, list_of};
 
 use crate::codes::{AT_DOT, BEHIND_DOT, CLOSES_ANOTHER, ERROR, NO_FINDING_DETAIL, NOWHERE, STRAY};
 use crate::{Finding, ListTold, misfits, rows};
 use items::{RECORD_WORDS, kinds};
-use nested::Nested;
+use nested::{NestError, NestErrorKind};
 use refusal::{BRACKET_OPEN, MARK_WAITS, MISPLACED_DOT, TOO_DEEP, WRONG_CLOSE};
 
 // Told at row i.
-fn at_row(rows: &[u32], code: u32, detail: u32, i: usize) -> ListTold
+fn at_row(rows: &[u32], code: u32, detail: u32, i: usize) -> Option<ListTold>
     ensures { result ≡ at_row rows.now code detail i }
 {
     let row = rows::row_at(rows, i);
-    ListTold::At(
-        i,
-        Finding {
+    Some(ListTold {
+        row: i,
+        finding: Finding {
             severity: ERROR,
             code,
             detail,
@@ -27,18 +28,18 @@ fn at_row(rows: &[u32], code: u32, detail: u32, i: usize) -> ListTold
             also: NOWHERE,
             past: NOWHERE,
         },
-    )
+    })
 }
 
 // Told at row i, with row j as the second place.
-fn at_rows(rows: &[u32], code: u32, detail: u32, i: usize, j: usize) -> ListTold
+fn at_rows(rows: &[u32], code: u32, detail: u32, i: usize, j: usize) -> Option<ListTold>
     ensures { result ≡ at_rows rows.now code detail i j }
 {
     let row = rows::row_at(rows, i);
     let other = rows::row_at(rows, j);
-    ListTold::At(
-        i,
-        Finding {
+    Some(ListTold {
+        row: i,
+        finding: Finding {
             severity: ERROR,
             code,
             detail,
@@ -47,27 +48,23 @@ fn at_rows(rows: &[u32], code: u32, detail: u32, i: usize, j: usize) -> ListTold
             also: other.start,
             past: other.end,
         },
-    )
+    })
 }
 
-fn is_open(rows: &[u32], depth: u32, i: usize) -> bool
-    ensures { result ≡ is_open rows.now depth i }
+// Whether row i has a kind, where so many brackets are open.
+fn is_kind(rows: &[u32], kind: u32, depth: u32, i: usize) -> bool
+    ensures { result ≡ is_kind rows.now kind depth i }
 {
     let row = rows::row_at(rows, i);
-    if row.kind == kinds::OPEN_PAREN {
-        return row.depth == depth;
-    }
-    false
+    row.kind == kind && row.depth == depth
 }
 
-// The last bracket before row p that opens inside `depth` others.
-fn last_open(rows: &[u32], depth: u32, p: usize) -> usize
-    ensures { result ≡ last_before (is_open rows.now depth) p }
+// The last such row before row p.
+fn last_of(rows: &[u32], kind: u32, depth: u32, p: usize) -> usize
+    ensures { result ≡ last_before (λ i. is_kind rows.now kind depth i) p }
 {
-    let mut i = p;
-    while 0 < i {
-        i -= 1;
-        if is_open(rows, depth, i) {
+    for i in (0..p).rev() {
+        if is_kind(rows, kind, depth, i) {
             return i;
         }
     }
@@ -78,14 +75,11 @@ fn last_open(rows: &[u32], depth: u32, p: usize) -> usize
 fn opener_of(rows: &[u32], depth: u32, p: usize) -> usize
     ensures { result ≡ opener rows.now depth p }
 {
-    if depth == 0 {
-        return last_open(rows, 0, p);
-    }
-    last_open(rows, depth - 1, p)
+    last_of(rows, kinds::OPEN_PAREN, depth.saturating_sub(1), p)
 }
 
 // E41.
-fn wrong_close(rows: &[u32], p: usize) -> ListTold
+fn wrong_close(rows: &[u32], p: usize) -> Option<ListTold>
     ensures { result ≡ wrong_close rows.now p }
 {
     let depth = rows::depth_at(rows, p);
@@ -101,32 +95,8 @@ fn wrong_close(rows: &[u32], p: usize) -> ListTold
     )
 }
 
-fn is_dot(rows: &[u32], depth: u32, i: usize) -> bool
-    ensures { result ≡ is_dot rows.now depth i }
-{
-    let row = rows::row_at(rows, i);
-    if row.kind == kinds::DOT {
-        return row.depth == depth;
-    }
-    false
-}
-
-// The last dot before row p where so many brackets are open.
-fn last_dot(rows: &[u32], depth: u32, p: usize) -> usize
-    ensures { result ≡ last_before (is_dot rows.now depth) p }
-{
-    let mut i = p;
-    while 0 < i {
-        i -= 1;
-        if is_dot(rows, depth, i) {
-            return i;
-        }
-    }
-    0
-}
-
 // E42.
-fn misplaced_dot(rows: &[u32], p: usize) -> ListTold
+fn misplaced_dot(rows: &[u32], p: usize) -> Option<ListTold>
     ensures { result ≡ misplaced_dot rows.now p }
 {
     let row = rows::row_at(rows, p);
@@ -134,7 +104,8 @@ fn misplaced_dot(rows: &[u32], p: usize) -> ListTold
         return at_row(rows, MISPLACED_DOT, AT_DOT, p);
     }
     let depth = rows::depth_at(rows, p);
-    at_row(rows, MISPLACED_DOT, BEHIND_DOT, last_dot(rows, depth, p))
+    let dot = last_of(rows, kinds::DOT, depth, p);
+    at_row(rows, MISPLACED_DOT, BEHIND_DOT, dot)
 }
 
 // One of the eight quoting marks, or `#;`.
@@ -173,9 +144,7 @@ fn is_waiting(rows: &[u32], depth: u32, p: usize, i: usize) -> bool
 fn last_waiting(rows: &[u32], depth: u32, p: usize) -> usize
     ensures { result ≡ last_before (waits rows.now depth p) p }
 {
-    let mut i = p;
-    while 0 < i {
-        i -= 1;
+    for i in (0..p).rev() {
         if is_waiting(rows, depth, p, i) {
             return i;
         }
@@ -184,7 +153,7 @@ fn last_waiting(rows: &[u32], depth: u32, p: usize) -> usize
 }
 
 // E43.
-fn mark_waits(rows: &[u32], p: usize) -> ListTold
+fn mark_waits(rows: &[u32], p: usize) -> Option<ListTold>
     ensures { result ≡ mark_waits rows.now p }
 {
     let depth = rows::depth_at(rows, p);
@@ -197,7 +166,7 @@ fn mark_waits(rows: &[u32], p: usize) -> ListTold
 }
 
 // The innermost bracket that is open at the end.
-fn innermost_open(rows: &[u32]) -> ListTold
+fn innermost_open(rows: &[u32]) -> Option<ListTold>
     ensures { result ≡ innermost rows.now }
 {
     let count = rows.len() / RECORD_WORDS;
@@ -206,7 +175,7 @@ fn innermost_open(rows: &[u32]) -> ListTold
 }
 
 // The bracket that the misfit of row k lies in, with the misfit.
-fn around_misfit(rows: &[u32], k: usize) -> ListTold
+fn around_misfit(rows: &[u32], k: usize) -> Option<ListTold>
     ensures { result ≡ around rows.now k }
 {
     let depth = rows::depth_at(rows, rows.len() / RECORD_WORDS);
@@ -226,12 +195,12 @@ fn is_unclosed(error: u32) -> bool
 }
 
 // E40.
-fn bracket_open(source: &[u8], rows: &[u32]) -> ListTold
+fn bracket_open(source: &[u8], rows: &[u32]) -> Option<ListTold>
     ensures { result ≡ bracket_open source.now rows.now }
 {
     let last = rows::last_row(rows);
     if is_unclosed(last.error) {
-        return ListTold::Silent;
+        return None;
     }
     let k = misfits::first_misfit(source, rows);
     if k < rows.len() / RECORD_WORDS {
@@ -241,35 +210,29 @@ fn bracket_open(source: &[u8], rows: &[u32]) -> ListTold
 }
 
 // By the refusal and its row.
-fn refused_list(source: &[u8], rows: &[u32], n: u32, p: usize) -> ListTold
-    ensures { result ≡ refused_list source.now rows.now n p }
+fn refused_list(source: &[u8], rows: &[u32], e: NestError) -> Option<ListTold>
+    ensures { result ≡ refused_list source.now rows.now (error_number e.kind) e.at }
 {
-    if n == BRACKET_OPEN {
-        return bracket_open(source, rows);
+    match e.kind {
+        NestErrorKind::BracketOpen => bracket_open(source, rows),
+        NestErrorKind::WrongClose => wrong_close(rows, e.at),
+        NestErrorKind::MisplacedDot => misplaced_dot(rows, e.at),
+        NestErrorKind::MarkWaits => mark_waits(rows, e.at),
+        NestErrorKind::TooDeep => at_row(rows, TOO_DEEP, NO_FINDING_DETAIL, e.at),
+        NestErrorKind::Alien => None,
+        NestErrorKind::ErrorItem => None,
+        NestErrorKind::FewNodes => None,
     }
-    if n == WRONG_CLOSE {
-        return wrong_close(rows, p);
-    }
-    if n == MISPLACED_DOT {
-        return misplaced_dot(rows, p);
-    }
-    if n == MARK_WAITS {
-        return mark_waits(rows, p);
-    }
-    if n == TOO_DEEP {
-        return at_row(rows, TOO_DEEP, NO_FINDING_DETAIL, p);
-    }
-    ListTold::Silent
 }
 
 // The finding about the lists of a plan.
-pub fn list_of(source: &[u8], rows: &[u32]) -> ListTold
+pub fn list_of(source: &[u8], rows: &[u32]) -> Option<ListTold>
     ensures { result ≡ list_of source.now rows.now }
 {
     let mut none = [0u32; 1];
     let built = nested::build(rows, &mut none[..0]);
     match built {
-        Nested::Built(_n) => ListTold::Silent,
-        Nested::Refused(n, p) => refused_list(source, rows, n, p),
+        Ok(_n) => None,
+        Err(e) => refused_list(source, rows, e),
     }
 }

@@ -77,8 +77,7 @@ pub fn first_misfit(source: &[u8], rows: &[u32]) -> usize
     let mut line = lines::line_from(source, 0, 0, at);
     let mut starts = [line; DEPTHS];
     let mut offsets = [at - line; DEPTHS];
-    let mut k: usize = 0;
-    while k < count {
+    for k in 0..count {
         let row = rows::row_at(rows, k);
         line = lines::line_from(source, at, line, row.start as usize);
         at = row.start as usize;
@@ -87,7 +86,6 @@ pub fn first_misfit(source: &[u8], rows: &[u32]) -> usize
         }
         note(&mut starts, row, line);
         note(&mut offsets, row, at - line);
-        k += 1;
     }
     count
 }

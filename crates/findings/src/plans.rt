@@ -8,21 +8,20 @@ ghost use Rattle.findings.specs.Find.{not_utf8, outcome, delivered, call_of};
 
 use crate::codes::{ERROR, NO_FINDING_DETAIL, NOWHERE};
 use crate::telling::tell;
-use crate::{Counted, FindAnswer, Finding, RowTold, laying, rows};
-use chars::{Utf8, first_bad};
+use crate::{Counted, Finding, TooFew, laying, rows};
+use chars::first_bad;
 use items::RECORD_WORDS;
 use refusal::{LIMIT, NOT_UTF8, TOO_LONG};
 
 // A finding that is the only one.
-fn alone(rows: &[u32], findings: &mut [u32], f: Finding) -> FindAnswer
+fn alone(rows: &[u32], findings: &mut [u32], f: Finding) -> Result<Counted, TooFew>
     ensures { outcome result rows.now findings.new ≡ delivered (f ∷ []) [] rows.now findings.old }
 {
     let none = Counted {
         findings: 0,
         errors: 0,
     };
-    let n = laying::lay(findings, none, RowTold::One(f));
-    FindAnswer::Found(n.findings, n.errors)
+    Ok(laying::lay(findings, none, Some(f)))
 }
 
 // E21: a bad sequence starts at b.
@@ -43,22 +42,21 @@ fn not_utf8(source: &[u8], b: usize) -> Finding
 }
 
 // The findings of a text that is UTF-8 and not too long.
-fn find_good(source: &[u8], rows: &mut [u32], findings: &mut [u32]) -> FindAnswer
+fn find_good(source: &[u8], rows: &mut [u32], findings: &mut [u32]) -> Result<Counted, TooFew>
     ensures { outcome result rows.new findings.new
         ≡ delivered (told_of source.now (flat (rows_of source.now))) (rows_of source.now) rows.old findings.old }
 {
     let count = findings_rows::rows(source, rows);
     if rows.len() / RECORD_WORDS < count {
-        return FindAnswer::TooFew(count);
+        return Err(TooFew { rows: count });
     }
     let end = count * RECORD_WORDS;
-    let n = tell(source, &rows[..end], findings);
-    FindAnswer::Found(n.findings, n.errors)
+    Ok(tell(source, &rows[..end], findings))
 }
 
 // The findings of a plan: how many there are, and how many of them are errors; those that fit are written from the start of `findings`.
 // `rows` is lent as working memory, and holds the plan's rows afterwards.
-pub fn find(source: &[u8], rows: &mut [u32], findings: &mut [u32]) -> FindAnswer
+pub fn find(source: &[u8], rows: &mut [u32], findings: &mut [u32]) -> Result<Counted, TooFew>
     ensures { outcome result rows.new findings.new ≡ call_of source.now rows.old findings.old }
 {
     if LIMIT < source.len() {
@@ -74,7 +72,7 @@ pub fn find(source: &[u8], rows: &mut [u32], findings: &mut [u32]) -> FindAnswer
         return alone(rows, findings, f);
     }
     match first_bad(source) {
-        Utf8::Good => find_good(source, rows, findings),
-        Utf8::Bad(b) => alone(rows, findings, not_utf8(source, b)),
+        None => find_good(source, rows, findings),
+        Some(b) => alone(rows, findings, not_utf8(source, b)),
     }
 }

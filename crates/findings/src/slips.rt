@@ -11,7 +11,7 @@ use crate::codes::{
     COMMA_NUMBER, INVISIBLE, NO_FINDING_DETAIL, NOWHERE, NUMBER_NAME, TYPOGRAPHIC_DASH,
     TYPOGRAPHIC_QUOTE, WARNING,
 };
-use crate::{Finding, RowTold, rows};
+use crate::{Finding, rows};
 use chars::{Decoded, decode_at};
 use items::kinds;
 
@@ -21,10 +21,10 @@ const FIRST_PLAIN: u8 = b' ';
 const LAST_PLAIN: u8 = b'~';
 
 // A warning with no second place.
-pub fn warn(code: u32, detail: u32, start: u32, end: u32) -> RowTold
-    ensures { result ≡ RowTold.One (single warning code detail start end) }
+pub fn warn(code: u32, detail: u32, start: u32, end: u32) -> Option<Finding>
+    ensures { result ≡ Some (single warning code detail start end) }
 {
-    RowTold::One(Finding {
+    Some(Finding {
         severity: WARNING,
         code,
         detail,
@@ -148,7 +148,7 @@ fn is_plain(b: u8) -> bool
 }
 
 // The first odd character of a part that starts at the place a.
-fn first_odd(part: &[u8], a: usize) -> RowTold
+fn first_odd(part: &[u8], a: usize) -> Option<Finding>
     requires { a + length part.now ≤ limit }
     ensures { result ≡ first_odd (sequences 0 a part.now) }
 {
@@ -166,22 +166,22 @@ fn first_odd(part: &[u8], a: usize) -> RowTold
                     i = next;
                 }
                 Decoded::Bad => {
-                    return RowTold::Nothing;
+                    return None;
                 }
                 Decoded::Cut => {
-                    return RowTold::Nothing;
+                    return None;
                 }
                 Decoded::End => {
-                    return RowTold::Nothing;
+                    return None;
                 }
             }
         }
     }
-    RowTold::Nothing
+    None
 }
 
 // The first odd character of an extent.
-fn odd_in(source: &[u8], start: u32, end: u32) -> RowTold
+fn odd_in(source: &[u8], start: u32, end: u32) -> Option<Finding>
     ensures { result ≡ odd_in source.now start end }
 {
     let part = rows::part(source, start as usize, end as usize);
@@ -202,13 +202,7 @@ fn is_digit(b: u8) -> bool
 fn leads_number(b: u8) -> bool
     ensures { result ≡ one_of (codes "+-.") b }
 {
-    if b == b'+' {
-        return true;
-    }
-    if b == b'-' {
-        return true;
-    }
-    b == b'.'
+    matches!(b, b'+' | b'-' | b'.')
 }
 
 // Whether what starts at a place begins like a number.
@@ -253,7 +247,7 @@ fn length_of(start: u32, end: u32) -> u32
 }
 
 // W01 or W02.
-fn number_slip(source: &[u8], rows: &[u32], p: usize) -> RowTold
+fn number_slip(source: &[u8], rows: &[u32], p: usize) -> Option<Finding>
     requires { p < count_of rows.now }
     ensures { result ≡ number_slip source.now rows.now p }
 {
@@ -270,18 +264,18 @@ fn number_slip(source: &[u8], rows: &[u32], p: usize) -> RowTold
         }
         return warn(NUMBER_NAME, NO_FINDING_DETAIL, row.start, row.end);
     }
-    RowTold::Nothing
+    None
 }
 
 // What the name of row p tells.
-pub fn name_told(source: &[u8], rows: &[u32], p: usize) -> RowTold
+pub fn name_told(source: &[u8], rows: &[u32], p: usize) -> Option<Finding>
     requires { p < count_of rows.now }
     ensures { result ≡ name_told source.now rows.now p }
 {
     let row = rows::row_at(rows, p);
     let odd = odd_in(source, row.start, row.end);
     match odd {
-        RowTold::Nothing => number_slip(source, rows, p),
-        RowTold::One(f) => RowTold::One(f),
+        None => number_slip(source, rows, p),
+        Some(f) => Some(f),
     }
 }

@@ -11,20 +11,14 @@ use items::{RECORD_WORDS, kinds};
 fn stays_fresh(fresh: bool, b: u8) -> bool
     ensures { result ≡ (fresh && is_space b) }
 {
-    if fresh {
-        return lines::is_space(b);
-    }
-    false
+    fresh && lines::is_space(b)
 }
 
 // Whether a bracket opens a line.
 fn opens_line(fresh: bool, b: u8) -> bool
     ensures { result ≡ (fresh && eqb b (code "(")) }
 {
-    if fresh {
-        return b == b'(';
-    }
-    false
+    fresh && b == b'('
 }
 
 // Whether a newline, then spaces or tabs, then `(` stand in a text.
@@ -32,18 +26,15 @@ fn has_swallowed(part: &[u8]) -> bool
     ensures { result ≡ swallows false part.now }
 {
     let mut fresh = false;
-    let mut i: usize = 0;
-    while i < part.len() {
-        let b = part[i];
-        if b == b'\n' {
+    for b in part {
+        if *b == b'\n' {
             fresh = true;
         } else {
-            if opens_line(fresh, b) {
+            if opens_line(fresh, *b) {
                 return true;
             }
-            fresh = stays_fresh(fresh, b);
+            fresh = stays_fresh(fresh, *b);
         }
-        i += 1;
     }
     false
 }
@@ -67,12 +58,10 @@ pub fn first_swallower(source: &[u8], rows: &[u32]) -> usize
     ensures { result ≡ swallower source.now rows.now }
 {
     let count = rows.len() / RECORD_WORDS;
-    let mut p: usize = 0;
-    while p < count {
+    for p in 0..count {
         if is_swallower(source, rows, p) {
             return p;
         }
-        p += 1;
     }
     count
 }

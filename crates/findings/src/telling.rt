@@ -6,7 +6,7 @@ ghost use Rattle.findings.specs.Laid.{telling, all_told};
 ghost use Rattle.findings.specs.Told.{ends_in_text, error_end, error_of, error_told, swallow_told, text_told, number_told, name_or_nothing, row_told, list_told, told_of};
 
 use crate::codes::{ERROR, MODES_DIFFER, NO_FINDING_DETAIL, NOWHERE, SWALLOWING};
-use crate::{Counted, Finding, ListTold, Row, RowTold, laying, lists, rows, slips, swallowing};
+use crate::{Counted, Finding, ListTold, Row, laying, lists, rows, slips, swallowing};
 use items::{RECORD_WORDS, kinds};
 
 // Whether the last row is a text with no closing quote.
@@ -14,20 +14,14 @@ fn ends_in_text(source: &[u8], rows: &[u32]) -> bool
     ensures { result ≡ ends_in_text source.now rows.now }
 {
     let last = rows::last_row(rows);
-    if last.error != kinds::INCOMPLETE_STRING {
-        return false;
-    }
-    rows::byte_at(source, last.start as usize) == b'"'
+    last.error == kinds::INCOMPLETE_STRING && rows::byte_at(source, last.start as usize) == b'"'
 }
 
 // Whether a quote is left over, where the first text that has swallowed a line's end is row `first`.
 fn is_left_over(source: &[u8], rows: &[u32], first: usize) -> bool
     ensures { result ≡ (ltb first (count_of rows.now) && ends_in_text source.now rows.now) }
 {
-    if first < rows.len() / RECORD_WORDS {
-        return ends_in_text(source, rows);
-    }
-    false
+    first < rows.len() / RECORD_WORDS && ends_in_text(source, rows)
 }
 
 // Where an error's place ends.
@@ -51,18 +45,15 @@ fn is_left_quote(rows: &[u32], left: bool, p: usize) -> bool
     requires { p < count_of rows.now }
     ensures { result ≡ (left && eqb (p + 1) (count_of rows.now)) }
 {
-    if left {
-        return p + 1 == rows.len() / RECORD_WORDS;
-    }
-    false
+    left && p + 1 == rows.len() / RECORD_WORDS
 }
 
 // An error's row, as it is.
-fn error_of(row: Row) -> RowTold
+fn error_of(row: Row) -> Option<Finding>
     ensures { result ≡ error_of row }
 {
     let end = error_end(row);
-    RowTold::One(Finding {
+    Some(Finding {
         severity: ERROR,
         code: row.error,
         detail: row.about,
@@ -74,22 +65,22 @@ fn error_of(row: Row) -> RowTold
 }
 
 // E01 to E13.
-fn error_told(rows: &[u32], left: bool, p: usize) -> RowTold
+fn error_told(rows: &[u32], left: bool, p: usize) -> Option<Finding>
     requires { p < count_of rows.now }
     ensures { result ≡ error_told rows.now left p }
 {
     if is_left_quote(rows, left, p) {
-        return RowTold::Nothing;
+        return None;
     }
     error_of(rows::row_at(rows, p))
 }
 
 // The text that has swallowed a line's end, by where it and the left-over quote start.
-fn swallow_told(left: bool, a: u32, b: u32) -> RowTold
+fn swallow_told(left: bool, a: u32, b: u32) -> Option<Finding>
     ensures { result ≡ swallow_told left a b }
 {
     if left {
-        return RowTold::One(Finding {
+        return Some(Finding {
             severity: ERROR,
             code: kinds::INCOMPLETE_STRING,
             detail: NO_FINDING_DETAIL,
@@ -103,7 +94,7 @@ fn swallow_told(left: bool, a: u32, b: u32) -> RowTold
 }
 
 // W06 or E02.
-fn text_told(rows: &[u32], first: usize, left: bool, p: usize) -> RowTold
+fn text_told(rows: &[u32], first: usize, left: bool, p: usize) -> Option<Finding>
     ensures { result ≡ text_told rows.now first left p }
 {
     if p == first {
@@ -111,24 +102,18 @@ fn text_told(rows: &[u32], first: usize, left: bool, p: usize) -> RowTold
         let last = rows::last_row(rows);
         return swallow_told(left, row.start, last.start);
     }
-    RowTold::Nothing
+    None
 }
 
 // `;`, `"` or `|`, which end a number in report mode only.
 fn ends_in_report(b: u8) -> bool
     ensures { result ≡ one_of (codes ";\"|") b }
 {
-    if b == b';' {
-        return true;
-    }
-    if b == b'"' {
-        return true;
-    }
-    b == b'|'
+    matches!(b, b';' | b'"' | b'|')
 }
 
 // W07.
-fn number_told(source: &[u8], rows: &[u32], p: usize) -> RowTold
+fn number_told(source: &[u8], rows: &[u32], p: usize) -> Option<Finding>
     ensures { result ≡ number_told source.now rows.now p }
 {
     let row = rows::row_at(rows, p);
@@ -136,22 +121,22 @@ fn number_told(source: &[u8], rows: &[u32], p: usize) -> RowTold
     if ends_in_report(b) {
         return slips::warn(MODES_DIFFER, b as u32, row.start, row.end);
     }
-    RowTold::Nothing
+    None
 }
 
 // A name that warnings are told of, and no other, tells something.
-fn name_or_nothing(source: &[u8], rows: &[u32], p: usize) -> RowTold
+fn name_or_nothing(source: &[u8], rows: &[u32], p: usize) -> Option<Finding>
     requires { p < count_of rows.now }
     ensures { result ≡ name_or_nothing source.now rows.now p }
 {
     if slips::is_name(source, rows, p) {
         return slips::name_told(source, rows, p);
     }
-    RowTold::Nothing
+    None
 }
 
 // What row p tells.
-fn row_told(source: &[u8], rows: &[u32], first: usize, left: bool, p: usize) -> RowTold
+fn row_told(source: &[u8], rows: &[u32], first: usize, left: bool, p: usize) -> Option<Finding>
     requires { p < count_of rows.now }
     ensures { result ≡ row_told source.now rows.now first left p }
 {
@@ -168,22 +153,15 @@ fn row_told(source: &[u8], rows: &[u32], first: usize, left: bool, p: usize) -> 
     if row.kind == kinds::NUMBER {
         return number_told(source, rows, p);
     }
-    RowTold::Nothing
+    None
 }
 
 // The finding about lists, if row p tells it.
-fn list_told(list: ListTold, p: usize) -> RowTold
+fn list_told(list: Option<ListTold>, p: usize) -> Option<Finding>
     ensures { result ≡ list_told list p }
 {
-    match list {
-        ListTold::Silent => RowTold::Nothing,
-        ListTold::At(i, f) => {
-            if i == p {
-                return RowTold::One(f);
-            }
-            RowTold::Nothing
-        }
-    }
+    let told = list?;
+    (told.row == p).then_some(told.finding)
 }
 
 // What the rows of a source tell: how many findings, how many of them errors; those that fit are written from the start of `findings`.
@@ -198,11 +176,9 @@ pub fn tell(source: &[u8], rows: &[u32], findings: &mut [u32]) -> Counted
         findings: 0,
         errors: 0,
     };
-    let mut p: usize = 0;
-    while p < count {
+    for p in 0..count {
         n = laying::lay(findings, n, list_told(list, p));
         n = laying::lay(findings, n, row_told(source, rows, first, left, p));
-        p += 1;
     }
     n
 }

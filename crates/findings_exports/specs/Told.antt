@@ -1,20 +1,20 @@
 -- The call over slices and numbers alone: its answer as a number and two values, and all that it leaves.
-use Rattle.std.specs.Prelude.{ℕ, List, [], ◌∷◌}
+use Rattle.std.specs.Prelude.{ℕ, List, [], ◌∷◌, Result, Ok, Err}
 use Rattle.refusal.specs.Refusals as refusal
 use Rattle.chars.specs.Encode.{lay}
 use Rattle.findings.specs.Find.{Outcome, call_of}
-use Rattle.findings.specs.declared.FindAnswer.{FindAnswer}
-use Rattle.findings.specs.declared.FindAnswer.TheVariants.{Found, TooFew}
+use Rattle.findings.specs.declared.Counted.{Counted}
+use Rattle.findings.specs.declared.TooFew.{TooFew}
 
 -- `served` where the plan was read, else 22: 20 and 21 are findings
-abbrev pub number_in : FindAnswer → ℕ
-number_in (Found findings errors) = refusal.served
-number_in (TooFew rows) = refusal.too_few
+abbrev pub number_in : Result Counted TooFew → ℕ
+number_in (Ok n) = refusal.served
+number_in (Err few) = refusal.too_few
 
 -- how many findings there are and how many of them are errors, or how many rows are needed
-abbrev pub values_in : FindAnswer → List ℕ
-values_in (Found findings errors) = findings ∷ errors ∷ []
-values_in (TooFew rows) = rows ∷ 0 ∷ []
+abbrev pub values_in : Result Counted TooFew → List ℕ
+values_in (Ok n) = n.findings ∷ n.errors ∷ []
+values_in (Err few) = few.rows ∷ 0 ∷ []
 
 -- what the call leaves: its number, and the three lent memories after it
 pub record LeftBehind : Type 0 where

@@ -6,20 +6,20 @@ ghost use Rattle.chars.specs.Encode.{lay};
 ghost use Rattle.findings_exports.specs.Told.{number_in, values_in, left_behind, find_left};
 
 use exports_values::put_values;
-use findings::FindAnswer;
+use findings::{Counted, TooFew};
 use refusal::{SERVED, TOO_FEW};
 
 // An answer told: its values go to the lent memory, and its number back.
-fn tell(a: FindAnswer, values: &mut [u64]) -> u32
+fn tell(a: Result<Counted, TooFew>, values: &mut [u64]) -> u32
     ensures { (result ≡ number_in a) × (values.new ≡ lay (values_in a) values.old) }
 {
     match a {
-        FindAnswer::Found(findings, errors) => {
-            put_values(values, findings as u64, errors as u64);
+        Ok(n) => {
+            put_values(values, n.findings as u64, n.errors as u64);
             SERVED
         }
-        FindAnswer::TooFew(rows) => {
-            put_values(values, rows as u64, 0);
+        Err(few) => {
+            put_values(values, few.rows as u64, 0);
             TOO_FEW
         }
     }

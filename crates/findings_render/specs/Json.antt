@@ -1,11 +1,11 @@
 -- A finding as an object of JSON, on a line of its own (RFC 8259). Where there is no help or no second place, `null` stands.
-use Rattle.std.specs.Prelude.{ℕ, true, List, ◌++◌, eqb, ltb, take, if◌then◌else◌}
+use Rattle.std.specs.Prelude.{ℕ, true, List, ◌++◌, ltb, take, if◌then◌else◌}
 use Rattle.laws.specs.Quoted.{codes, code}
 use Rattle.findings_render_parts.specs.declared.Seen.{Seen}
 use Rattle.findings_render_messages.specs.declared.ToldFinding.{ToldFinding}
 use Rattle.findings_render_parts.specs.Laid.{marked}
 use Rattle.findings_render_parts.specs.Printed.{digits, number}
-use Rattle.findings_render_parts.specs.Shown.{as_byte, walked}
+use Rattle.findings_render_parts.specs.Shown.{is_byte, walked}
 use Rattle.findings_render_parts.specs.Spots.{line_number, column_number}
 use Rattle.findings_render_messages.specs.Messages.{code_of, text_of, is_told}
 use Rattle.findings_render.specs.Rendered.{severity_word}
@@ -13,7 +13,7 @@ use Rattle.findings_render.specs.Rendered.{severity_word}
 -- a file's name may have any bytes: a control character stands as `\u001B`, a byte of no character as the replacement character
 unfoldable pub name_one : Seen → List ℕ → List ℕ
 name_one u t =
-    if eqb u.kind as_byte then codes "\\ufffd"
+    if is_byte u.kind then codes "\\ufffd"
     else if ltb u.code 0x20 then codes "\\u00" ++ digits true 2 u.code
     else marked true (take u.size t)
 

@@ -4,13 +4,13 @@ ghost use Rattle.findings_render_parts.specs.Laid.{Laid};
 ghost use Rattle.findings_render_parts.specs.Spots.{IsPlace};
 ghost use Rattle.findings_render.specs.Json.{name_one, name_string, spot_fields, byte_fields, place_fields, word_fields, help_field, see_field, json};
 
-use crate::lines::put_severity_word;
-use findings_render_messages::{HELP, MESSAGE, NOTE, ToldFinding, code_of, is_told, put_text};
-use findings_render_parts::Seen;
-use findings_render_parts::characters::{AS_BYTE, part, seen_at};
+use crate::lines::{put_severity_word, put_told};
+use findings_render_messages::{HELP, MESSAGE, NOTE, ToldFinding, code_of, is_told};
+use findings_render_parts::characters::{part, seen_at};
 use findings_render_parts::laying::put;
 use findings_render_parts::numbers::{put_digits, put_number};
 use findings_render_parts::places::{column_number, line_number};
+use findings_render_parts::{Seen, Showing};
 
 const CONTROL_END: u32 = 0x20;
 
@@ -18,14 +18,14 @@ const CONTROL_END: u32 = 0x20;
 fn put_name_one(out: &mut [u8], at: usize, u: Seen, t: &[u8]) -> usize
     ensures { Laid false (name_one u t.now) at out.old result out.new }
 {
-    if u.kind == AS_BYTE {
-        return put(out, at, false, b"\\ufffd");
+    match u.kind {
+        Showing::AsByte => put(out, at, false, b"\\ufffd"),
+        _ if u.code < CONTROL_END => {
+            let begun = put(out, at, false, b"\\u00");
+            put_digits(out, begun, false, true, 2, u.code as usize)
+        }
+        _ => put(out, at, true, part(t, 0, u.size)),
     }
-    if u.code < CONTROL_END {
-        let begun = put(out, at, false, b"\\u00");
-        return put_digits(out, begun, false, true, 2, u.code as usize);
-    }
-    put(out, at, true, part(t, 0, u.size))
 }
 
 fn put_name(out: &mut [u8], at: usize, t: &[u8]) -> usize
@@ -84,9 +84,7 @@ fn put_word_fields(out: &mut [u8], at: usize, t: ToldFinding, s: &[u8]) -> usize
     let second = put(out, weighed, false, b"\",\"code\":\"");
     let code = code_of(t);
     let coded = put(out, second, false, &code);
-    let third = put(out, coded, false, b"\",\"message\":\"");
-    let worded = put_text(out, third, true, t, s, MESSAGE);
-    put(out, worded, false, b"\"")
+    put_told(out, coded, true, t, s, b"\",\"message\":\"", MESSAGE, b"\"")
 }
 
 fn put_help_field(out: &mut [u8], at: usize, t: ToldFinding, s: &[u8]) -> usize
@@ -95,9 +93,7 @@ fn put_help_field(out: &mut [u8], at: usize, t: ToldFinding, s: &[u8]) -> usize
     if !is_told(t, HELP) {
         return put(out, at, false, b",\"help\":null");
     }
-    let begun = put(out, at, false, b",\"help\":\"");
-    let worded = put_text(out, begun, true, t, s, HELP);
-    put(out, worded, false, b"\"")
+    put_told(out, at, true, t, s, b",\"help\":\"", HELP, b"\"")
 }
 
 fn put_see_field(out: &mut [u8], at: usize, t: ToldFinding, s: &[u8]) -> usize
@@ -109,9 +105,7 @@ fn put_see_field(out: &mut [u8], at: usize, t: ToldFinding, s: &[u8]) -> usize
     }
     let placed = put_spot_fields(out, at, b",\"see\":{\"line\":", b",\"column\":", s, t.from);
     let counted = put_byte_fields(out, placed, t.from, t.to);
-    let begun = put(out, counted, false, b",\"message\":\"");
-    let worded = put_text(out, begun, true, t, s, NOTE);
-    put(out, worded, false, b"\"}")
+    put_told(out, counted, true, t, s, b",\"message\":\"", NOTE, b"\"}")
 }
 
 // A finding as an object of JSON.

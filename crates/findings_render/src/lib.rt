@@ -30,20 +30,14 @@ pub const JSON: u32 = 2;
 fn word(finding: &[u32], k: usize) -> u32
     ensures { result ≡ get_or finding.now k 0 }
 {
-    if finding.len() <= k {
-        return 0;
-    }
-    finding[k]
+    finding.get(k).copied().unwrap_or(0)
 }
 
 // A place, or the text's end.
-fn within(s: &[u8], place: u32) -> usize
+fn or_end(s: &[u8], place: u32) -> usize
     ensures { (result ≡ cut s.now place) × IsPlace s.now result }
 {
-    if s.len() < place as usize {
-        return s.len();
-    }
-    place as usize
+    s.len().min(place as usize)
 }
 
 fn read_words(finding: &[u32], s: &[u8]) -> ToldFinding
@@ -56,10 +50,10 @@ fn read_words(finding: &[u32], s: &[u8]) -> ToldFinding
         severity: word(finding, 0),
         code: word(finding, 1),
         detail: word(finding, 2),
-        start: within(s, word(finding, 3)),
-        end: within(s, word(finding, 4)),
-        from: within(s, word(finding, 5)),
-        to: within(s, word(finding, 6)),
+        start: or_end(s, word(finding, 3)),
+        end: or_end(s, word(finding, 4)),
+        from: or_end(s, word(finding, 5)),
+        to: or_end(s, word(finding, 6)),
     }
 }
 
@@ -75,16 +69,12 @@ fn put_style(
     requires place_2 { IsPlace s.now t.from }
     ensures { Laid false (in_style style colour t s.now name.now) 0 out.old result out.new }
 {
-    if style == FULL {
-        return put_lines(out, 0, true, colour, t, s, name);
+    match style {
+        FULL => put_lines(out, 0, true, colour, t, s, name),
+        BRIEF => put_lines(out, 0, false, colour, t, s, name),
+        JSON => put_json(out, 0, t, s, name),
+        _ => 0,
     }
-    if style == BRIEF {
-        return put_lines(out, 0, false, colour, t, s, name);
-    }
-    if style == JSON {
-        return put_json(out, 0, t, s, name);
-    }
-    0
 }
 
 // A finding's bytes, from the start of `out` on, as many as fit; answers how many there are.

@@ -1,6 +1,7 @@
 // A finding's lines: the headline, its picture and help, and the note at the second place.
-ghost use Rattle.std.specs.Prelude.{◌≡◌, false, if◌then◌else◌};
-ghost use Rattle.findings_render_parts.specs.Laid.{Laid};
+ghost use Rattle.std.specs.Prelude.{◌≡◌, ◌++◌, false, if◌then◌else◌};
+ghost use Rattle.findings_render_parts.specs.Laid.{Laid, marked};
+ghost use Rattle.findings_render_messages.specs.Messages.{text_of};
 ghost use Rattle.findings_render_parts.specs.Spots.{IsPlace};
 ghost use Rattle.findings_render.specs.Rendered.{only_if, is_error, red, magenta, spot, severity_word, severity, headline, help, note, body, lines, picture};
 
@@ -30,18 +31,20 @@ pub fn put_severity_word(out: &mut [u8], at: usize, t: ToldFinding) -> usize
     ensures { Laid false (severity_word t) at out.old result out.new }
 {
     if WARNING < t.severity {
-        return put(out, at, false, b"error");
+        put(out, at, false, b"error")
+    } else {
+        put(out, at, false, b"warning")
     }
-    put(out, at, false, b"warning")
 }
 
 fn put_paint(out: &mut [u8], at: usize, colour: bool, t: ToldFinding) -> usize
     ensures { Laid false (only_if colour (if is_error t then red else magenta)) at out.old result out.new }
 {
     if WARNING < t.severity {
-        return put_if(out, at, colour, b"\x1b[1;31m");
+        put_if(out, at, colour, b"\x1b[1;31m")
+    } else {
+        put_if(out, at, colour, b"\x1b[1;35m")
     }
-    put_if(out, at, colour, b"\x1b[1;35m")
 }
 
 fn put_severity(out: &mut [u8], at: usize, colour: bool, t: ToldFinding) -> usize
@@ -73,15 +76,31 @@ fn put_headline(
     put(out, coded, false, b"]\n")
 }
 
+// A finding's message, help or note between two texts.
+pub fn put_told(
+    out: &mut [u8],
+    at: usize,
+    quoted: bool,
+    t: ToldFinding,
+    s: &[u8],
+    before: &[u8],
+    which: u8,
+    after: &[u8],
+) -> usize
+    ensures { Laid false (before.now ++ (marked quoted (text_of t s.now which) ++ after.now)) at out.old result out.new }
+{
+    let begun = put(out, at, false, before);
+    let worded = put_text(out, begun, quoted, t, s, which);
+    put(out, worded, false, after)
+}
+
 fn put_help(out: &mut [u8], at: usize, t: ToldFinding, s: &[u8]) -> usize
     ensures { Laid false (help t s.now) at out.old result out.new }
 {
     if !is_told(t, HELP) {
         return at;
     }
-    let begun = put(out, at, false, b"      = help: ");
-    let worded = put_text(out, begun, false, t, s, HELP);
-    put(out, worded, false, b"\n")
+    put_told(out, at, false, t, s, b"      = help: ", HELP, b"\n")
 }
 
 fn put_picture_if(
@@ -97,9 +116,10 @@ fn put_picture_if(
     ensures { Laid false (only_if full (picture colour s.now p q)) at out.old result out.new }
 {
     if full {
-        return put_picture(out, at, colour, s, p, q);
+        put_picture(out, at, colour, s, p, q)
+    } else {
+        at
     }
-    at
 }
 
 fn put_note(
@@ -118,10 +138,8 @@ fn put_note(
         return at;
     }
     let placed = put_spot(out, at, name, s, t.from);
-    let begun = put(out, placed, false, b"note: ");
-    let worded = put_text(out, begun, false, t, s, NOTE);
-    let ended = put(out, worded, false, b"\n");
-    put_picture_if(out, ended, full, colour, s, t.from, t.to)
+    let told = put_told(out, placed, false, t, s, b"note: ", NOTE, b"\n");
+    put_picture_if(out, told, full, colour, s, t.from, t.to)
 }
 
 // What stands under the headline, in full.

@@ -1,8 +1,8 @@
 // The line of a place with carets under it.
-ghost use Rattle.std.specs.Prelude.{◌≡◌, false, not, eqb};
+ghost use Rattle.std.specs.Prelude.{false};
 ghost use Rattle.findings_render_parts.specs.Laid.{Laid};
 ghost use Rattle.findings_render_parts.specs.Spots.{IsPlace};
-ghost use Rattle.findings_render.specs.Rendered.{only_if, least, line_of, under_line, picture};
+ghost use Rattle.findings_render.specs.Rendered.{only_if, line_of, under_line, picture};
 
 use findings_render_parts::Window;
 use findings_render_parts::characters::{part, put_carets, put_shown, put_under};
@@ -14,26 +14,7 @@ use findings_render_parts::places::{line_number, window};
 pub fn put_if(out: &mut [u8], at: usize, there: bool, text: &[u8]) -> usize
     ensures { Laid false (only_if there text.now) at out.old result out.new }
 {
-    if there {
-        return put(out, at, false, text);
-    }
-    at
-}
-
-// Whether two numbers differ.
-pub fn differ(x: usize, y: usize) -> bool
-    ensures { result ≡ not (eqb x y) }
-{
-    x != y
-}
-
-fn lesser(x: usize, y: usize) -> usize
-    ensures { result ≡ least x y }
-{
-    if y < x {
-        return y;
-    }
-    x
+    if there { put(out, at, false, text) } else { at }
 }
 
 // The line, with its number.
@@ -42,9 +23,9 @@ fn put_line(out: &mut [u8], at: usize, s: &[u8], w: Window, n: usize) -> usize
 {
     let numbered = put_aligned(out, at, n);
     let barred = put(out, numbered, false, b" | ");
-    let begun = put_if(out, barred, differ(w.from, w.start), b"...");
+    let begun = put_if(out, barred, w.from != w.start, b"...");
     let shown = put_shown(out, begun, false, part(s, w.from, w.to));
-    let ended = put_if(out, shown, differ(w.to, w.end), b"...");
+    let ended = put_if(out, shown, w.to != w.end, b"...");
     put(out, ended, false, b"\n")
 }
 
@@ -61,10 +42,10 @@ fn put_under_line(
     ensures { Laid false (under_line colour s.now w p q) at out.old result out.new }
 {
     let barred = put(out, at, false, b"      | ");
-    let begun = put_if(out, barred, differ(w.from, w.start), b"   ");
+    let begun = put_if(out, barred, w.from != w.start, b"   ");
     let under = put_under(out, begun, b' ', part(s, w.from, p));
     let painted = put_if(out, under, colour, b"\x1b[1;32m");
-    let marked = put_carets(out, painted, part(s, p, lesser(q, w.to)));
+    let marked = put_carets(out, painted, part(s, p, q.min(w.to)));
     let ended = put_if(out, marked, colour, b"\x1b[0m");
     put(out, ended, false, b"\n")
 }

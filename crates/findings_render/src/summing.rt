@@ -4,10 +4,9 @@ ghost use Rattle.findings_render_parts.specs.Laid.{Laid, counted, over};
 ghost use Rattle.findings_render.specs.Summed.{count_of, counts, more, last, summed};
 
 use crate::JSON;
-use crate::picture::{differ, put_if};
+use crate::picture::put_if;
 use findings_render_parts::laying::put;
 use findings_render_parts::numbers::put_number;
-use findings_render_parts::places::minus;
 
 // `1 error`, `2 errors`
 fn put_count(out: &mut [u8], at: usize, n: usize, word: &[u8]) -> usize
@@ -15,7 +14,7 @@ fn put_count(out: &mut [u8], at: usize, n: usize, word: &[u8]) -> usize
 {
     let counted = put_number(out, at, false, n);
     let worded = put(out, counted, false, word);
-    put_if(out, worded, differ(n, 1), b"s")
+    put_if(out, worded, n != 1, b"s")
 }
 
 fn put_counts(out: &mut [u8], at: usize, findings: usize, errors: usize) -> usize
@@ -26,7 +25,7 @@ fn put_counts(out: &mut [u8], at: usize, findings: usize, errors: usize) -> usiz
     }
     let first = put_count(out, at, errors, b" error");
     let parted = put(out, first, false, b", ");
-    put_count(out, parted, minus(findings, errors), b" warning")
+    put_count(out, parted, findings.saturating_sub(errors), b" warning")
 }
 
 fn put_more(out: &mut [u8], at: usize, name: &[u8], findings: usize, told: usize) -> usize
@@ -37,7 +36,7 @@ fn put_more(out: &mut [u8], at: usize, name: &[u8], findings: usize, told: usize
     }
     let named = put(out, at, false, name);
     let parted = put(out, named, false, b": ");
-    let counted = put_number(out, parted, false, minus(findings, told));
+    let counted = put_number(out, parted, false, findings.saturating_sub(told));
     put(out, counted, false, b" more\n")
 }
 

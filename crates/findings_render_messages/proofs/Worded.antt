@@ -1,16 +1,16 @@
 -- The table's pieces, and how a text is filled in.
-use Prim.Native.Nat.{ℕ, suc, ◌+◌, ◌-◌, ◌≤◌, ◌<◌}
+use Prim.Native.Nat.{ℕ, suc, ◌+◌, ◌-◌, ◌≤◌, ◌<◌, min}
 use mathlib.Core.Bool.{Bool, true, false, not, ◌&&◌, ◌||◌}
 use mathlib.Core.List.{List, [], ◌∷◌, ◌++◌}
 use mathlib.Core.Path.{◌≡◌, refl, sym, ◌∙◌}
 use native.Mathlib.Omega.{arith}
-use borrow.Author.Tests.{lt-ltb}
+use borrow.Author.Tests.{lt-ltb, ltb-true, ltb-false}
 use lib.Dec.{eqb, ltb}
 use lib.ListN.{length, get_or, take, drop, length-drop}
 use lib.Seq.{drop-drop}
 use Rattle.std.specs.Prelude.{if◌then◌else◌}
 use Rattle.laws.specs.Texts.{before, begins}
-use Rattle.laws.proofs.Choice.{and_true, no_yes}
+use Rattle.laws.proofs.Choice.{by_bool, and_true, no_yes}
 use Rattle.laws.proofs.Places.{past, here}
 use Rattle.findings_render_messages.specs.declared.ToldFinding.{ToldFinding}
 use Rattle.findings_render_parts.specs.Shown.{is_nil}
@@ -62,3 +62,6 @@ some_text (b ∷ l) = lt-ltb 0 (suc (length l)) (omega arith)
 pub or_no : (x : Bool) → x ≡ (x || false)
 or_no true = refl
 or_no false = refl
+
+pub least : (n : ℕ) → min n 9 ≡ (if ltb n 9 then n else 9)
+least n = by_bool (ltb n 9) (λ y. let h = ltb-true n 9 y in rw y (omega arith)) (λ e. let h = ltb-false n 9 e in rw e (omega arith))

@@ -5,7 +5,7 @@ ghost use Rattle.std.specs.Prelude.{◌≡◌, true, ◌&&◌, [], ◌∷◌, �
 ghost use Rattle.laws.specs.Texts.{begins};
 ghost use Rattle.laws.specs.Quoted.{one_of};
 ghost use Rattle.findings_render_parts.specs.Laid.{Laid};
-ghost use Rattle.findings_render_messages.specs.Messages.{table, behind, piece_of, letter_of, variant_of, code_of, key_of, inserted_more, inserted, filled, text_of, is_told};
+ghost use Rattle.findings_render_messages.specs.Messages.{table, behind, piece_of, letter_of, variant_of, code_of, key_of, inserted, filled, text_of, is_told};
 
 use byte_runs::{begins_with, find};
 use findings_render_parts::characters::{part, put_shown};
@@ -106,10 +106,7 @@ fn begins_at(t: &[u8], at: usize, start: bool, key: &[u8]) -> bool
     requires { at ≤ length t.now }
     ensures { result ≡ (start && begins key.now (drop at t.now)) }
 {
-    if start {
-        return begins_with(&t[at..], key);
-    }
-    false
+    start && begins_with(&t[at..], key)
 }
 
 // The place behind a key.
@@ -117,15 +114,13 @@ fn text_start(t: &[u8], key: &[u8]) -> usize
     ensures { (drop result t.now ≡ behind key.now true t.now) × (result ≤ length t.now) }
 {
     let mut start = true;
-    let mut i = 0;
-    while i < t.len() {
+    for (i, b) in t.iter().enumerate() {
         if begins_at(t, i, start, key) {
             return i + key.len();
         }
-        start = t[i] == 0;
-        i += 1;
+        start = *b == 0;
     }
-    i
+    t.len()
 }
 
 fn piece<'a>(t: &'a [u8], key: &[u8]) -> &'a [u8]
@@ -138,60 +133,41 @@ fn piece<'a>(t: &'a [u8], key: &[u8]) -> &'a [u8]
 fn letter(t: ToldFinding) -> u8
     ensures { result ≡ letter_of t }
 {
-    if 99 < t.code {
-        return 0;
+    match t.severity {
+        _ if 99 < t.code => 0,
+        ERROR => b'E',
+        WARNING => b'W',
+        WARNING_AS_ERROR => b'W',
+        _ => 0,
     }
-    if t.severity == ERROR {
-        return b'E';
-    }
-    if t.severity == WARNING {
-        return b'W';
-    }
-    if t.severity == WARNING_AS_ERROR {
-        return b'W';
-    }
-    0
 }
 
 fn is_by_detail(code: u32) -> bool
     ensures { result ≡ one_of (11 ∷ 41 ∷ 42 ∷ []) code }
 {
-    if code == 11 {
-        return true;
-    }
-    if code == 41 {
-        return true;
-    }
-    code == 42
+    matches!(code, 11 | 41 | 42)
 }
 
 fn is_by_second(code: u32) -> bool
     ensures { result ≡ one_of (2 ∷ 40 ∷ []) code }
 {
-    if code == 2 {
-        return true;
-    }
-    code == 40
+    matches!(code, 2 | 40)
 }
 
 fn variant(t: ToldFinding) -> usize
     ensures { (result ≡ variant_of t) × (result < 10) }
 {
     if is_by_detail(t.code) {
-        if t.detail < 9 {
-            return t.detail as usize;
-        }
-        return 9;
+        (t.detail as usize).min(9)
+    } else if !is_by_second(t.code) {
+        0
+    } else if t.from < t.to {
+        2
+    } else if 1 < t.detail {
+        1
+    } else {
+        0
     }
-    if is_by_second(t.code) {
-        if t.from < t.to {
-            return 2;
-        }
-        if 1 < t.detail {
-            return 1;
-        }
-    }
-    0
 }
 
 // A finding's code, as `E41`.
@@ -208,54 +184,11 @@ pub fn code_of(t: ToldFinding) -> [u8; 3]
 fn key_of(t: ToldFinding, which: u8) -> [u8; 5]
     ensures { result ≡ key_of t which }
 {
-    [
-        letter(t),
-        digit_byte((t.code / 10 % 10) as usize),
-        digit_byte((t.code % 10) as usize),
-        digit_byte(variant(t)),
-        which,
-    ]
+    let [letter, tens, ones] = code_of(t);
+    [letter, tens, ones, digit_byte(variant(t)), which]
 }
 
-fn put_inserted_more(
-    out: &mut [u8],
-    at: usize,
-    quoted: bool,
-    t: ToldFinding,
-    source: &[u8],
-    b: u8,
-) -> usize
-    ensures { Laid quoted (inserted_more t source.now b) at out.old result out.new }
-{
-    match b {
-        b'*' => put_digits(
-            out,
-            at,
-            quoted,
-            true,
-            hex_count(t.detail),
-            t.detail as usize,
-        ),
-        b'~' => put_digits(out, at, quoted, true, 2, t.detail as usize),
-        b'<' => put_shown(
-            out,
-            at,
-            quoted,
-            part(part(source, t.start, t.end), 0, t.detail as usize),
-        ),
-        b'>' => {
-            let place = part(source, t.start, t.end);
-            put_shown(
-                out,
-                at,
-                quoted,
-                part(place, t.detail as usize + 1, place.len()),
-            )
-        }
-        _ => put_byte(out, at, quoted, b),
-    }
-}
-
+// What a byte of a text stands for.
 fn put_inserted(
     out: &mut [u8],
     at: usize,
@@ -274,7 +207,21 @@ fn put_inserted(
             let one = [(t.detail % 256) as u8];
             put_shown(out, at, quoted, &one)
         }
-        _ => put_inserted_more(out, at, quoted, t, source, b),
+        b'*' => {
+            let count = hex_count(t.detail);
+            put_digits(out, at, quoted, true, count, t.detail as usize)
+        }
+        b'~' => put_digits(out, at, quoted, true, 2, t.detail as usize),
+        b'<' => {
+            let place = part(source, t.start, t.end);
+            put_shown(out, at, quoted, part(place, 0, t.detail as usize))
+        }
+        b'>' => {
+            let place = part(source, t.start, t.end);
+            let from = t.detail as usize + 1;
+            put_shown(out, at, quoted, part(place, from, place.len()))
+        }
+        _ => put_byte(out, at, quoted, b),
     }
 }
 
@@ -290,10 +237,8 @@ fn put_filled(
     ensures { Laid quoted (filled t source.now text.now) at out.old result out.new }
 {
     let mut next = at;
-    let mut i = 0;
-    while i < text.len() {
-        next = put_inserted(out, next, quoted, t, source, text[i]);
-        i += 1;
+    for b in text {
+        next = put_inserted(out, next, quoted, t, source, *b);
     }
     next
 }

@@ -1,11 +1,11 @@
 -- Bytes laid one after the other are laid together; what is left to lay shrinks from turn to turn of a loop; and what a caller sees of it all.
-use Prim.Native.Nat.{ℕ, zero, suc, ◌+◌, ◌-◌, ◌≤◌, ◌<◌}
+use Prim.Native.Nat.{ℕ, zero, suc, ◌+◌, ◌-◌, ◌≤◌, ◌<◌, min}
 use mathlib.Core.Bool.{Bool, true, false}
 use mathlib.Core.List.{List, [], ◌∷◌, ◌++◌, append_assoc}
 use mathlib.Core.Path.{◌≡◌, refl, ap, ◌∙◌}
 use native.Mathlib.Numerals.{sub-one}
 use native.Mathlib.Omega.{arith}
-use borrow.Author.Tests.{lt-ltb, le-ltb, le-leb, ltb-true, ltb-false, leb-true}
+use borrow.Author.Tests.{lt-ltb, le-leb, ltb-true, ltb-false, leb-true}
 use lib.Dec.{ltb, leb}
 use lib.ListN.{length, set, replicate, length-append, length-set}
 use lib.Seq.{set_out, set_at, take-nil, append_snoc}
@@ -35,13 +35,13 @@ length-laid at (b ∷ bs) old = length-laid (beyond at) bs (set old at b) ∙ le
 
 -- ---- a byte
 
-pub beyond_below : (at : ℕ) → at < top → at + 1 ≡ beyond at
+-- the sum stays at the top
+pub saturated : (at : ℕ) → at ≤ top → min (at + 1) top ≡ beyond at
 unfolding beyond
-beyond_below at h = rw (lt-ltb at top h)
-
-pub beyond-top : (at : ℕ) → top ≤ at → at ≡ beyond at
-unfolding beyond
-beyond-top at h = rw (le-ltb at top h)
+saturated at h =
+    by_bool (ltb at top)
+    (λ y. let below = ltb-true at top y in rw y (omega arith))
+    (λ n. let last = ltb-false at top n in rw n (omega arith))
 
 pub one_plain : {q : Bool} {b at n : ℕ} {old new : List ℕ} → is_marked q b ≡ false → n ≡ beyond at → new ≡ set old at b → Laid q (b ∷ []) at old n new
 unfolding marked_byte marked past laid
@@ -141,14 +141,14 @@ laid_is p (b ∷ bs) (x ∷ old) h =
     rw (lt-ltb (length p) top room, set_at p x old b (length p) refl, far, ← append_snoc p b old)
     (laid_is (p ++ (b ∷ [])) bs old fit ∙ append_assoc p (b ∷ []) (over bs old))
 
-unquoted : (bs : List ℕ) → marked false bs ≡ bs
+pub unquoted : (bs : List ℕ) → marked false bs ≡ bs
 unfolding marked marked_byte is_marked
 unquoted [] = refl
 unquoted (b ∷ bs) = rw (unquoted bs)
 
 -- what was quoted, as bytes
-pub as_quoted : {bs : List ℕ} {at n : ℕ} {old new : List ℕ} → Laid true bs at old n new → Laid false (marked true bs) at old n new
-as_quoted {bs} l = record { place = rw (unquoted (marked true bs)) l.place; memory = rw (unquoted (marked true bs)) l.memory }
+pub as_quoted : {q : Bool} {bs : List ℕ} {at n : ℕ} {old new : List ℕ} → Laid q bs at old n new → Laid false (marked q bs) at old n new
+as_quoted {q} {bs} l = record { place = rw (unquoted (marked q bs)) l.place; memory = rw (unquoted (marked q bs)) l.memory }
 
 pub whole : {bs : List ℕ} {n : ℕ} {old new : List ℕ} → length old ≤ top → Laid false bs 0 old n new → (n ≡ counted bs) × (new ≡ over bs old)
 unfolding counted

@@ -1,22 +1,25 @@
 -- Counting and scanning, a byte more.
 use Prim.Native.Nat.{ℕ, zero, suc, ◌+◌, ◌-◌, ◌≤◌, ◌<◌}
-use mathlib.Core.Bool.{false}
+use mathlib.Core.Bool.{true, false}
 use mathlib.Core.List.{List, ◌++◌}
-use mathlib.Core.Path.{◌≡◌, refl, ap}
+use mathlib.Core.Path.{◌≡◌, refl}
 use native.Mathlib.Numerals.{add-one, sub-one}
 use native.Mathlib.Omega.{arith}
 use borrow.Author.Tests.{eq-eqb, ne_eqb}
 use lib.ListN.{get_or, replicate}
-use Rattle.std.specs.Prelude.{if◌then◌else◌}
 use Rattle.laws.specs.Quoted.{within}
 use Rattle.findings_render_parts.specs.declared.Seen.{Seen}
 use Rattle.findings_render_parts.specs.Spots.{newline, count_in, start_of}
 use Rattle.findings_render_parts.specs.Shown.{is_copied, columns, under_one, is_nil}
 
-pub count_on_lem : (low high : ℕ) (s : List ℕ) (from n : ℕ)
-    → count_in low high s from (n + 1) ≡ count_in low high s from n + (if within low high (get_or s (from + n) 0) then 1 else 0)
-unfolding count_in
-count_on_lem low high s from n = ap (count_in low high s from) (add-one n)
+module _ (low high : ℕ) (s : List ℕ) (from n : ℕ) where
+  pub count_hit : within low high (get_or s (from + n) 0) ≡ true → count_in low high s from (n + 1) ≡ count_in low high s from n + 1
+  unfolding count_in
+  count_hit e = rw (add-one n, e)
+
+  pub count_miss : within low high (get_or s (from + n) 0) ≡ false → count_in low high s from (n + 1) ≡ count_in low high s from n
+  unfolding count_in
+  count_miss e = rw (add-one n, e) (omega arith)
 
 module _ (s : List ℕ) where
   pub start_here : (i : ℕ) → 0 < i → get_or s (i - 1) 0 ≡ newline → start_of s i ≡ i

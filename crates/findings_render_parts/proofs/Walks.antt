@@ -4,6 +4,7 @@ use mathlib.Core.Bool.{true, false}
 use mathlib.Core.List.{List, [], ◌∷◌, ◌++◌}
 use mathlib.Core.Path.{◌≡◌, refl, sym, ap, ◌∙◌}
 use native.Mathlib.Nat.{add-zero}
+use native.Mathlib.Numerals.{add-one}
 use native.Mathlib.Omega.{arith}
 use lib.ListN.{length, get_or, take, drop, length-drop, drop_of_length-le}
 use lib.Seq.{take-nil, take_all, drop-drop, drop-cons, get_or-drop}
@@ -17,7 +18,9 @@ use Rattle.chars.specs.declared.Decoded.TheVariants as decoded
 use Rattle.chars.proofs.Sequences.{char_some, further}
 use Rattle.chars.proofs.Chars.{char_at}
 use Rattle.findings_render_parts.specs.declared.Seen.{Seen}
-use Rattle.findings_render_parts.specs.Shown.{as_byte, one_column, ranges, kind_in, kind_of, seen, seen_in, walked}
+use Rattle.findings_render_parts.specs.declared.Showing.{Showing}
+use Rattle.findings_render_parts.specs.declared.Showing.TheVariants.{NoColumn, OneColumn, TwoColumns, Tab, ByNumber, AsByte}
+use Rattle.findings_render_parts.specs.Shown.{ranges, kind_in, kind_of, seen, seen_in, walked, shown_as, is_tab, is_byte}
 
 -- ---- parts
 
@@ -37,18 +40,21 @@ rows : length ranges ≡ 33
 unfolding ranges
 rows = refl
 
-module _ (c k : ℕ) {row : List ℕ} (e : row ≡ get_or ranges k []) where
-  pub kind_here : k < 33 → within (get_or row 0 0) (get_or row 1 0) c ≡ true → kind_in (drop k ranges) c ≡ get_or row 2 0
-  unfolding kind_in
-  kind_here h y = rw (drop-cons ranges k [] (omega (arith, rows)), ← e, y)
+abbrev row : ℕ → ℕ × ℕ × Showing
+row k = get_or ranges k (0, 0, NoColumn)
 
-  pub kind_later : k < 33 → within (get_or row 0 0) (get_or row 1 0) c ≡ false → kind_in (drop k ranges) c ≡ kind_in (drop (suc k) ranges) c
+module _ (c k : ℕ) where
+  pub kind_here : k < 33 → within (row k).0 (row k).1 c ≡ true → kind_in (drop k ranges) c ≡ (row k).2
   unfolding kind_in
-  kind_later h y = rw (drop-cons ranges k [] (omega (arith, rows)), ← e, y)
+  kind_here h y = rw (drop-cons ranges k (0, 0, NoColumn) (omega (arith, rows)), y)
 
-pub kind_other : (c k : ℕ) → 33 ≤ k → kind_in (drop k ranges) c ≡ one_column
-unfolding kind_in
-kind_other c k h = rw (drop_of_length-le ranges {i = k} (omega (arith, rows)))
+  pub kind_later : k < 33 → within (row k).0 (row k).1 c ≡ false → kind_in (drop k ranges) c ≡ kind_in (drop (k + 1) ranges) c
+  unfolding kind_in
+  kind_later h y = rw (drop-cons ranges k (0, 0, NoColumn) (omega (arith, rows)), y, add-one k)
+
+  pub kind_other : 33 ≤ k → kind_in (drop k ranges) c ≡ OneColumn
+  unfolding kind_in
+  kind_other h = rw (drop_of_length-le ranges {i = k} (omega (arith, rows)))
 
 -- ---- what stands at a place
 
@@ -64,7 +70,7 @@ module _ (t : List ℕ) (at : ℕ) where
   seen_char none c next e = impossible cc
 
   pub seen_else : (f : Front) (o : Decoded) → o ≡ placed at f → ((c n : ℕ) → o ≡ decoded.Char c n → ⊥)
-      → record { size = 1; kind = as_byte; code = get_or t 0 0 } ≡ seen t f
+      → record { size = 1; kind = AsByte; code = get_or t 0 0 } ≡ seen t f
   seen_else (char d n) o e never = absurd (never d (at + n) e)
   seen_else (bad n) o e never = refl
   seen_else cut o e never = refl
@@ -83,13 +89,13 @@ abbrev Stands : List ℕ → ℕ → Seen → Type 0
 Stands t at u = (u ≡ seen_in (drop at t)) × (1 ≤ u.size) × (at + u.size ≤ length t)
 
 module _ (t : List ℕ) (at : ℕ) {o : Decoded} (e : o ≡ placed at (front (drop at t))) (h : at < length t) where
-  pub seen_good : (c next : ℕ) → o ≡ decoded.Char c next → {k : ℕ} → k ≡ kind_of c → Stands t at (record { size = next - at; kind = k; code = c })
+  pub seen_good : (c next : ℕ) → o ≡ decoded.Char c next → {k : Showing} → k ≡ kind_of c → Stands t at (record { size = next - at; kind = k; code = c })
   seen_good c next f {k} y =
       let far = further t at c next (sym f ∙ e) in
       let within = (char_at t at c next (sym f ∙ e) (omega arith)).inside in
       (rw y (seen_char (drop at t) at (front (drop at t)) c next (sym f ∙ e)), omega arith, omega arith)
 
-  pub seen_bad : ((c n : ℕ) → o ≡ decoded.Char c n → ⊥) → (u : Seen) → u ≡ record { size = 1; kind = as_byte; code = get_or t at 0 } → Stands t at u
+  pub seen_bad : ((c n : ℕ) → o ≡ decoded.Char c n → ⊥) → (u : Seen) → u ≡ record { size = 1; kind = AsByte; code = get_or t at 0 } → Stands t at u
   seen_bad never u y =
       let b : get_or (drop at t) 0 0 ≡ get_or t at 0 = get_or-drop at t 0 0 ∙ rw (add-zero at) in
       let one : u.size ≡ 1 = ap (λ (v : Seen). v.size) y in
@@ -121,3 +127,29 @@ module _ (f : Seen → List ℕ → List ℕ) where
   pub walked_end : (t : List ℕ) (i : ℕ) → length t ≤ i → walked f 0 (drop i t) ≡ []
   unfolding walked
   walked_end t i h = rw (past t i h)
+
+-- ---- what is shown as it is
+
+pub shown_else : (k : Showing) (u : Seen) (t : List ℕ) → (k ≡ ByNumber → ⊥) → (k ≡ AsByte → ⊥) → take u.size t ≡ shown_as k u t
+shown_else NoColumn u t n b = refl
+shown_else OneColumn u t n b = refl
+shown_else TwoColumns u t n b = refl
+shown_else Tab u t n b = refl
+shown_else ByNumber u t n b = absurd (n refl)
+shown_else AsByte u t n b = absurd (b refl)
+
+pub no_tab : (k : Showing) → (k ≡ Tab → ⊥) → is_tab k ≡ false
+no_tab Tab n = absurd (n refl)
+no_tab NoColumn n = refl
+no_tab OneColumn n = refl
+no_tab TwoColumns n = refl
+no_tab ByNumber n = refl
+no_tab AsByte n = refl
+
+pub no_byte : (k : Showing) → (k ≡ AsByte → ⊥) → is_byte k ≡ false
+no_byte AsByte n = absurd (n refl)
+no_byte NoColumn n = refl
+no_byte OneColumn n = refl
+no_byte TwoColumns n = refl
+no_byte Tab n = refl
+no_byte ByNumber n = refl

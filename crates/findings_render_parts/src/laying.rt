@@ -4,50 +4,35 @@ ghost use Rattle.std.specs.Prelude.{◌≡◌, [], ◌∷◌, set, replicate};
 ghost use Rattle.laws.specs.Quoted.{one_of};
 ghost use Rattle.findings_render_parts.specs.Laid.{beyond, special, is_marked, letter, Laid};
 
-const GREATEST_USIZE: usize = 18446744073709551615;
-
 // One byte, as it is.
 fn put_raw(out: &mut [u8], at: usize, b: u8) -> usize
     ensures { (result ≡ beyond at) × (out.new ≡ set out.old at b) }
 {
     if at < out.len() {
         out[at] = b;
-        return at + 1;
     }
-    if at < GREATEST_USIZE {
-        return at + 1;
-    }
-    at
+    at.saturating_add(1)
 }
 
 // Whether a backslash stands before a byte of a string of JSON.
 fn is_special(b: u8) -> bool
     ensures { result ≡ one_of special b }
 {
-    match b {
-        b'"' | b'\\' | b'\t' => true,
-        _ => false,
-    }
+    matches!(b, b'"' | b'\\' | b'\t')
 }
 
 // The same where it may be no such string.
 fn is_marked(quoted: bool, b: u8) -> bool
     ensures { result ≡ is_marked quoted b }
 {
-    if quoted {
-        return is_special(b);
-    }
-    false
+    quoted && is_special(b)
 }
 
 // What stands after it.
 fn letter_of(b: u8) -> u8
     ensures { result ≡ letter b }
 {
-    if b == b'\t' {
-        return b't';
-    }
-    b
+    if b == b'\t' { b't' } else { b }
 }
 
 // One byte; where it is quoted, as JSON wants it.
@@ -66,10 +51,8 @@ pub fn put(out: &mut [u8], at: usize, quoted: bool, text: &[u8]) -> usize
     ensures { Laid quoted text.now at out.old result out.new }
 {
     let mut next = at;
-    let mut i = 0;
-    while i < text.len() {
-        next = put_byte(out, next, quoted, text[i]);
-        i += 1;
+    for b in text {
+        next = put_byte(out, next, quoted, *b);
     }
     next
 }
@@ -79,10 +62,8 @@ pub fn put_run(out: &mut [u8], at: usize, quoted: bool, b: u8, n: usize) -> usiz
     ensures { Laid quoted (replicate n b) at out.old result out.new }
 {
     let mut next = at;
-    let mut left = n;
-    while 0 < left {
+    for _ in 0..n {
         next = put_byte(out, next, quoted, b);
-        left -= 1;
     }
     next
 }

@@ -7,11 +7,26 @@ pub mod laying;
 pub mod numbers;
 pub mod places;
 
+// How a character is shown.
+#[derive(Clone, Copy)]
+pub enum Showing {
+    // as it is, in no column, one or two: a combining mark, a, 木
+    NoColumn,
+    OneColumn,
+    TwoColumns,
+    // a tab, as it is
+    Tab,
+    // by its number: `<U+202E>`
+    ByNumber,
+    // what is no character, as a byte: `<E5>`
+    AsByte,
+}
+
 // What stands at a place of a text: how many bytes it has, how it is shown, and its number.
 #[derive(Clone, Copy)]
 pub struct Seen {
     pub size: usize,
-    pub kind: u32,
+    pub kind: Showing,
     pub code: u32,
 }
 

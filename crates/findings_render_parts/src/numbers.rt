@@ -41,9 +41,10 @@ pub fn digit_byte(d: usize) -> u8
     ensures { result ≡ digit d }
 {
     if d < 10 {
-        return (48 + d) as u8;
+        (48 + d) as u8
+    } else {
+        (55 + d) as u8
     }
-    (55 + d) as u8
 }
 
 fn ten_to(w: usize) -> usize
@@ -77,10 +78,8 @@ pub fn put_digits(out: &mut [u8], at: usize, quoted: bool, hex: bool, w: usize, 
     ensures { Laid quoted (digits hex w n) at out.old result out.new }
 {
     let mut next = at;
-    let mut left = w;
-    while 0 < left {
-        left -= 1;
-        next = put_byte(out, next, quoted, digit_at(hex, left, n));
+    for k in 0..w {
+        next = put_byte(out, next, quoted, digit_at(hex, w - 1 - k, n));
     }
     next
 }
@@ -90,9 +89,7 @@ fn digit_count(n: usize) -> usize
     ensures { (result ≡ digit_count n) × (result ≤ 20) }
 {
     let mut count: usize = 1;
-    let mut k = 0;
-    while k < MOST_DIGITS - 1 {
-        k += 1;
+    for k in 1..MOST_DIGITS {
         if ten_to(k) <= n {
             count += 1;
         }
@@ -111,10 +108,7 @@ pub fn put_number(out: &mut [u8], at: usize, quoted: bool, n: usize) -> usize
 fn padding(count: usize) -> usize
     ensures { result ≡ 5 - count }
 {
-    if count < GUTTER {
-        return GUTTER - count;
-    }
-    0
+    GUTTER.saturating_sub(count)
 }
 
 // A number right-aligned in the gutter.
@@ -130,10 +124,10 @@ pub fn hex_count(c: u32) -> usize
     ensures { (result ≡ hex_count c) × (result ≤ 6) }
 {
     if c < 0x10000 {
-        return 4;
+        4
+    } else if c < 0x100000 {
+        5
+    } else {
+        6
     }
-    if c < 0x100000 {
-        return 5;
-    }
-    6
 }

@@ -5,30 +5,12 @@ ghost use Rattle.findings_render_parts.specs.Spots.{IsPlace, count_in, start_of,
 
 use crate::Window;
 use byte_runs::find;
-use chars::{TAIL_HIGH, TAIL_LOW};
+use chars::{TAIL_HIGH, TAIL_LOW, between};
 
 // How many bytes of a line are shown, and of a longer one how many before the place.
 const SHOWN: usize = 160;
 
 const SHOWN_BEFORE: usize = 80;
-
-fn is_byte_within(b: u8, low: u8, high: u8) -> bool
-    ensures { result ≡ within low high b }
-{
-    if b < low {
-        return false;
-    }
-    b <= high
-}
-
-fn hit(b: u8, low: u8, high: u8) -> usize
-    ensures { (result ≡ (if within low high b then 1 else 0)) × (result ≤ 1) }
-{
-    if is_byte_within(b, low, high) {
-        return 1;
-    }
-    0
-}
 
 // How many of the n bytes from a place on are one of low..high.
 fn count(s: &[u8], from: usize, n: usize, low: u8, high: u8) -> usize
@@ -36,10 +18,10 @@ fn count(s: &[u8], from: usize, n: usize, low: u8, high: u8) -> usize
     ensures { (result ≡ count_in low high s.now from n) × (result ≤ n) }
 {
     let mut found: usize = 0;
-    let mut i = 0;
-    while i < n {
-        found += hit(s[from + i], low, high);
-        i += 1;
+    for i in 0..n {
+        if between(low, high, s[from + i]) {
+            found += 1;
+        }
     }
     found
 }
@@ -49,12 +31,10 @@ pub fn line_start(s: &[u8], at: usize) -> usize
     requires { at ≤ length s.now }
     ensures { (result ≡ start_of s.now at) × (result ≤ at) }
 {
-    let mut i = at;
-    while 0 < i {
-        if s[i - 1] == b'\n' {
-            return i;
+    for i in (0..at).rev() {
+        if s[i] == b'\n' {
+            return i + 1;
         }
-        i -= 1;
     }
     0
 }
@@ -81,12 +61,11 @@ fn cut_return(s: &[u8], start: usize, end: usize) -> usize
     requires { end ≤ length s.now }
     ensures { result ≡ cut_return s.now start end }
 {
-    if start < end {
-        if s[end - 1] == b'\r' {
-            return end - 1;
-        }
+    if start < end && s[end - 1] == b'\r' {
+        end - 1
+    } else {
+        end
     }
-    end
 }
 
 // Where the line of a place ends.
@@ -103,41 +82,30 @@ fn next_character(s: &[u8], at: usize) -> usize
 {
     let mut i = at;
     while i < s.len() {
-        if is_byte_within(s[i], TAIL_LOW, TAIL_HIGH) {
-            i += 1;
-        } else {
+        if !between(TAIL_LOW, TAIL_HIGH, s[i]) {
             return i;
         }
+        i += 1;
     }
     i
-}
-
-// The difference, or 0.
-pub fn minus(x: usize, y: usize) -> usize
-    ensures { result ≡ x - y }
-{
-    if x < y {
-        return 0;
-    }
-    x - y
 }
 
 fn shown_from(s: &[u8], start: usize, end: usize, at: usize) -> usize
     ensures { result ≡ shown_from s.now start end at }
 {
-    if minus(end, start) <= SHOWN {
+    if end.saturating_sub(start) <= SHOWN {
         return start;
     }
-    if minus(at, start) <= SHOWN_BEFORE {
+    if at.saturating_sub(start) <= SHOWN_BEFORE {
         return start;
     }
-    next_character(s, minus(at, SHOWN_BEFORE))
+    next_character(s, at.saturating_sub(SHOWN_BEFORE))
 }
 
 fn shown_to(s: &[u8], from: usize, end: usize) -> usize
     ensures { result ≡ shown_to s.now from end }
 {
-    if minus(end, from) <= SHOWN {
+    if end.saturating_sub(from) <= SHOWN {
         return end;
     }
     next_character(s, from + SHOWN)

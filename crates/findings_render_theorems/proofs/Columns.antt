@@ -8,7 +8,7 @@ use lib.Seq.{drop-drop}
 use lib.Dec.{ltb}
 use native.Mathlib.Omega.{arith}
 use borrow.Author.Tests.{lt-leb, lt-ltb, le-ltb}
-use Rattle.std.specs.Prelude.{if◌then◌else◌}
+use Rattle.std.specs.Prelude.{if◌then◌else◌, None, Some}
 use Rattle.laws.proofs.Choice.{impossible}
 use Rattle.laws.proofs.Places.{here}
 use Rattle.chars.specs.Utf8.{Front, char, bad, cut, none, front, sequences}
@@ -16,7 +16,6 @@ use Rattle.chars.proofs.Sequences.{char_some, not_none, sequences-char, sequence
 use Rattle.chars.proofs.Spells.{Spells, spells}
 use Rattle.chars.proofs.Chars.{char-width}
 use Rattle.lines.specs.Place.{column}
-use Rattle.lines.specs.declared.Column.TheVariants.{Whole, Inside}
 use Rattle.lines.proofs.Columns.{column_done}
 use Rattle.lines.proofs.Tests.{by_less}
 use Rattle.findings_render_parts.specs.Spots.{count_in}
@@ -29,12 +28,12 @@ module _ (s : List ℕ) (p : ℕ) (inside : p ≤ length s) where
 
   -- from the place `at` on, with m counted, the column r of p
   abbrev Counting : ℕ → Type 0
-  Counting n = (at m r : ℕ) → length s ≤ at + n → at ≤ p → column p m (sequences 0 at (drop at s)) ≡ Whole r → r + tailed at ≡ m + (p - at)
+  Counting n = (at m r : ℕ) → length s ≤ at + n → at ≤ p → column p m (sequences 0 at (drop at s)) ≡ Some r → r + tailed at ≡ m + (p - at)
 
-  there : (at m r : ℕ) → at ≡ p → column p m (sequences 0 at (drop at s)) ≡ Whole r → r + tailed at ≡ m + (p - at)
+  there : (at m r : ℕ) → at ≡ p → column p m (sequences 0 at (drop at s)) ≡ Some r → r + tailed at ≡ m + (p - at)
   unfolding count_in
   there at m r h e =
-      let f : Whole m ≡ Whole r = sym (column_done p m at (drop at s) (omega arith)) ∙ e in
+      let f : Some m ≡ Some r = sym (column_done p m at (drop at s) (omega arith)) ∙ e in
       let z : m ≡ r = cc in
       let n : p - at ≡ 0 = omega arith in
       let none_left : tailed at ≡ 0 = ap (count_in 0x80 0xBF s at) n in
@@ -49,7 +48,7 @@ module _ (s : List ℕ) (p : ℕ) (inside : p ≤ length s) where
       let one : tally 0x80 0xBF (take w (drop at s)) + 1 ≡ w = ap (λ (l : List ℕ). tally 0x80 0xBF l + 1) k.0 ∙ tails_char c ∙ sym (char-width (drop at s) c w k) in
       omega arith
 
-  past : (n at m r : ℕ) → Counting n → length s ≤ at + suc n → at < p → column p m (sequences 0 at (drop at s)) ≡ Whole r → r + tailed at ≡ m + (p - at)
+  past : (n at m r : ℕ) → Counting n → length s ≤ at + suc n → at < p → column p m (sequences 0 at (drop at s)) ≡ Some r → r + tailed at ≡ m + (p - at)
   unfolding column
   past n at m r ih h a e = go (front (drop at s)) refl
     where
@@ -57,20 +56,20 @@ module _ (s : List ℕ) (p : ℕ) (inside : p ≤ length s) where
       go (char c w) f =
           let k : Spells (drop at s) (char c w) = subst (Spells (drop at s)) f (spells (drop at s)) in
           let some : 1 ≤ w = char_some (drop at s) c w f in
-          let shape : column p m (sequences 0 at (drop at s)) ≡ (if ltb p (at + w) then Inside else column p (m + 1) (sequences 0 (at + w) (drop w (drop at s)))) =
+          let shape : column p m (sequences 0 at (drop at s)) ≡ (if ltb p (at + w) then None else column p (m + 1) (sequences 0 (at + w) (drop w (drop at s)))) =
           rw (sequences-char at (drop at s) c w f, lt-leb p at a) in
           by_less p (at + w)
-          (λ l. let x : Inside ≡ Whole r = sym (shape ∙ rw (lt-ltb p (at + w) l)) ∙ e in impossible cc)
+          (λ l. let x : None ≡ Some r = sym (shape ∙ rw (lt-ltb p (at + w) l)) ∙ e in impossible cc)
           (λ l.
-          let x : column p (m + 1) (sequences 0 (at + w) (drop w (drop at s))) ≡ Whole r = sym (shape ∙ rw (le-ltb p (at + w) l)) ∙ e in
+          let x : column p (m + 1) (sequences 0 (at + w) (drop w (drop at s))) ≡ Some r = sym (shape ∙ rw (le-ltb p (at + w) l)) ∙ e in
           let on : r + tailed (at + w) ≡ m + 1 + (p - (at + w)) =
           ih (at + w) (m + 1) r (omega arith) l (sym (ap (λ (t : List ℕ). column p (m + 1) (sequences 0 (at + w) t)) (drop-drop w at s)) ∙ x) in
           omega (arith, on, passed_char at c w k l))
       go (bad k) f =
-          let x : Inside ≡ Whole r = sym (rw (sequences-bad at (drop at s) k f, lt-leb p at a)) ∙ e in
+          let x : None ≡ Some r = sym (rw (sequences-bad at (drop at s) k f, lt-leb p at a)) ∙ e in
           impossible cc
       go cut f =
-          let x : Inside ≡ Whole r = sym (rw (sequences-cut at (drop at s) f, lt-leb p at a)) ∙ e in
+          let x : None ≡ Some r = sym (rw (sequences-cut at (drop at s) f, lt-leb p at a)) ∙ e in
           impossible cc
       go none f = absurd (not_none (get_or s at 0) (drop (at + 1) s) (sym (ap front (here s at (omega arith))) ∙ f))
 
@@ -84,5 +83,5 @@ module _ (s : List ℕ) (p : ℕ) (inside : p ≤ length s) where
   counting zero = none_left
   counting (suc n) = turn n (counting n)
 
-  pub column_count : (at m r : ℕ) → at ≤ p → column p m (sequences 0 at (drop at s)) ≡ Whole r → r + tailed at ≡ m + (p - at)
+  pub column_count : (at m r : ℕ) → at ≤ p → column p m (sequences 0 at (drop at s)) ≡ Some r → r + tailed at ≡ m + (p - at)
   column_count at m r h e = counting (length s) at m r (omega arith) h e

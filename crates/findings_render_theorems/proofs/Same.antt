@@ -1,5 +1,6 @@
 -- `same_spot`: where the question about lines answers a place, line and column are those that are rendered of it. `found_spot`: so they are of every
 -- place of every finding that `find` writes, as `render` reads it (`cut`).
+use Rattle.std.proofs.Common.{None, Option, Some}
 use Prim.Native.Nat.{ℕ, ◌+◌, ◌-◌, ◌*◌, ◌≤◌, ◌<◌}
 use mathlib.Core.Path.{◌≡◌, refl, sym, ap, subst, ◌∙◌}
 use mathlib.Core.Bool.{true}
@@ -12,16 +13,13 @@ use Rattle.chars.specs.Utf8.{sequences}
 use Rattle.lines.specs.Starts.{starts}
 use Rattle.lines.specs.Place.{is_index, column, answered, place_of, locate_of}
 use Rattle.lines.specs.Place.{At}
-use Rattle.lines.specs.declared.Column.{Column}
-use Rattle.lines.specs.declared.Column.TheVariants.{Whole, Inside}
 use Rattle.lines.proofs.Back.{line_last}
 use Rattle.lines.proofs.Bounds.{since_line}
 use Rattle.lines.proofs.Index.{index_is}
 use Rattle.lines.proofs.Tests.{by_less}
 use Rattle.lines_theorems.proofs.Records.{Answered}
 use Rattle.findings.specs.Finding.{finding_words}
-use Rattle.findings.specs.Find.{call_of}
-use Rattle.findings.specs.declared.FindAnswer.TheVariants.{Found}
+use Rattle.findings.specs.Find.{found, call_of}
 use Rattle.findings_theorems.proofs.Written.{first_place, place, places_answered}
 use Rattle.findings_render_messages.specs.Messages.{cut}
 use Rattle.findings_render_parts.specs.Spots.{newline, count_in, start_of, line_number, column_number}
@@ -33,16 +31,16 @@ abbrev Same : List ℕ → ℕ → ℕ → ℕ → Type 0
 Same s p line col = (line ≡ line_number s p) × (col ≡ column_number s p)
 
 module _ (s : List ℕ) (p : ℕ) (inside : p ≤ length s) (line col : ℕ) where
-  by_column : (k : ℕ) (o : Column) → k ≡ count_in newline newline s 0 p → get_or (starts s) k 0 ≡ start_of s p → get_or (starts s) k 0 ≤ p
+  by_column : (k : ℕ) (o : Option ℕ) → k ≡ count_in newline newline s 0 p → get_or (starts s) k 0 ≡ start_of s p → get_or (starts s) k 0 ≤ p
       → column p 1 (sequences 0 (get_or (starts s) k 0) (drop (get_or (starts s) k 0) s)) ≡ o → answered p (k + 1) o ≡ At line col → Same s p line col
   unfolding line_number column_number
-  by_column k (Whole n) a b c e q =
+  by_column k (Some n) a b c e q =
       let x : k + 1 ≡ line = cc in
       let y : n ≡ col = cc in
       let count : n + count_in 0x80 0xBF s (start_of s p) (p - start_of s p) ≡ 1 + (p - start_of s p) =
       subst (λ (from : ℕ). n + count_in 0x80 0xBF s from (p - from) ≡ 1 + (p - from)) b (column_count s p inside (get_or (starts s) k 0) 1 n c e) in
       (omega arith, omega (arith, count_le 0x80 0xBF s (start_of s p) (p - start_of s p)))
-  by_column k Inside a b c e q = impossible cc
+  by_column k None a b c e q = impossible cc
 
 pub same_spot : (s index : List ℕ) (p line col : ℕ) → locate_of s index p ≡ At line col → (line ≡ line_number s p) × (col ≡ column_number s p)
 unfolding locate_of place_of
@@ -70,7 +68,7 @@ answered_cut s index p line col =
     (λ i. rw i (λ e. impossible cc))
 
 -- finding j of those that are written, and its place in the word k
-module _ (s rows memory : List ℕ) (n errors : ℕ) (answers : (call_of s rows memory).answer ≡ Found n errors) (j : ℕ) (there : j < n)
+module _ (s rows memory : List ℕ) (n errors : ℕ) (answers : (call_of s rows memory).answer ≡ found n errors) (j : ℕ) (there : j < n)
     (fits : j * finding_words + finding_words ≤ length memory) (k : ℕ) (from : first_place ≤ k) (to : k < finding_words) where
   abbrev at : ℕ
   at = place s rows memory n errors answers j there fits k from to

@@ -1,4 +1,5 @@
 -- The tests of a slip, and the search for the quote that closes its text, a byte at a time.
+use Rattle.std.proofs.Common.{None, Some}
 use Prim.Native.Nat.{ℕ, ◌+◌, ◌-◌, ◌≤◌, ◌<◌}
 use mathlib.Core.Path.{◌≡◌, refl, sym, ap, ◌∙◌}
 use mathlib.Core.Bool.{Bool, true, false}
@@ -12,7 +13,6 @@ use borrow.Author.Tests.{eq-eqb, ne_eqb, eqb-true}
 use Rattle.laws.specs.Quoted.{code, one_of}
 use Rattle.laws.proofs.Choice.{by_bool, impossible}
 use Rattle.items.specs.Kinds as kind
-use Rattle.findings_rows.specs.declared.Closing.TheVariants.{Behind, Nowhere}
 use Rattle.findings_rows.specs.Mended.{escape_errors, closing, rest_from}
 
 -- ---- the kinds of the errors that an escape may be
@@ -52,7 +52,7 @@ module _ (k : ℕ) where
 -- ---- the closing quote
 
 module _ (s : List ℕ) (quote at : ℕ) where
-  pub closing_end : (escaped : Bool) → length s ≤ at → Nowhere ≡ closing quote escaped at (drop at s)
+  pub closing_end : (escaped : Bool) → length s ≤ at → None ≡ closing quote escaped at (drop at s)
   unfolding closing
   closing_end escaped h = sym (ap (closing quote escaped at) (drop_of_length-le s h))
 
@@ -64,7 +64,7 @@ module _ (s : List ℕ) (quote at : ℕ) where
     unfolding closing
     closing_escaped escaped e = ap (closing quote escaped at) here ∙ rw e
 
-    pub closing_here : (escaped : Bool) → escaped ≡ false → get_or s at 0 ≡ quote → Behind (at + 1) ≡ closing quote escaped at (drop at s)
+    pub closing_here : (escaped : Bool) → escaped ≡ false → get_or s at 0 ≡ quote → Some (at + 1) ≡ closing quote escaped at (drop at s)
     unfolding closing
     closing_here escaped e f = sym (ap (closing quote escaped at) here ∙ rw (e, eq-eqb (get_or s at 0) quote f))
 

@@ -9,7 +9,6 @@ use native.Mathlib.Omega.{arith}
 use borrow.Author.Tests.{le-leb, lt-leb, leb-true, leb-false}
 use borrow.Rule.Slice.PartMut.{put_mid}
 use Rattle.laws.specs.Lent.{written}
-use Rattle.std.specs.Prelude.{if◌then◌else◌}
 use Rattle.laws.proofs.Choice.{by_bool}
 use Rattle.laws.proofs.Lent.{length-written, part_written}
 use Rattle.findings_rows.specs.Laid.{flat, laid_rows, laid_at, laid_rows_from}

@@ -1,11 +1,11 @@
 -- Laying the rows of the items that are read on: those that are done are laid, and the others are those from a spot on.
+use Rattle.std.proofs.Common.{None}
 use Prim.Native.Nat.{ℕ, zero, suc, ◌+◌, ◌*◌, ◌/◌, ◌≤◌, ◌<◌}
 use mathlib.Core.Path.{◌≡◌, refl, sym, ap, ◌∙◌}
 use mathlib.Core.List.{List, [], ◌∷◌, ◌++◌, append_assoc, append-nil}
 use lib.ListN.{length, length-append}
 use lib.Dec.{leb}
 use native.Mathlib.Omega.{arith}
-use Rattle.std.specs.Prelude.{if◌then◌else◌}
 use Rattle.laws.proofs.Choice.{by_bool}
 use Rattle.items.specs.Kinds as kind
 use Rattle.items.specs.Whole.{limit}
@@ -13,9 +13,8 @@ use borrow.Author.Tests.{lt-ltb, le-ltb}
 use Rattle.items.specs.Items.{Item, depth_after, depth_past, record_words, words_of}
 use Rattle.items.specs.declared.Nine.{Nine}
 use Rattle.meaning.specs.Records.{packed}
-use Rattle.lexer.specs.Reading.{gives, ends, size_of, found_of}
+use Rattle.lexer.specs.Reading.{gives, ends, size_of, found_of, one_found}
 use Rattle.lexer.specs.declared.Spot.{Spot}
-use Rattle.lexer.specs.declared.Found.TheVariants.{One, End}
 use Rattle.lexer.proofs.Nexts.{found_gives, found_ends}
 use Rattle.lexer.proofs.Memory.{past_more}
 use Rattle.findings_rows.specs.Laid.{flat, laid_rows, laid_at, laid, all_laid}
@@ -90,7 +89,7 @@ module _ (s : List ℕ) where
       pub lent_length : length words ≡ length words₀
       lent_length = ap length g.rows ∙ laid_length (rows_from 0 g.done) words₀
 
-      pub laying_end : End ≡ found_of 0 (mended_at s p) → laid (w / record_words) words ≡ all_laid (from_spot s start) words₀
+      pub laying_end : None ≡ found_of 0 (mended_at s p) → laid (w / record_words) words ≡ all_laid (from_spot s start) words₀
       laying_end e = go g.left refl
         where
           whole : mended_from (suc (size_of s start)) s start ≡ g.done → laid (w / record_words) words ≡ all_laid (from_spot s start) words₀
@@ -106,7 +105,7 @@ module _ (s : List ℕ) where
               (g.items ∙ ap (λ (m : ℕ). g.done ++ mended_from m s p) z
               ∙ ap (λ (l : List Item). g.done ++ l) (from_ends n p (found_ends 0 (mended_at s p) e)) ∙ append-nil g.done)
 
-      module _ (r : Nine) (q : Spot) (e : One r q ≡ found_of 0 (mended_at s p)) where
+      module _ (r : Nine) (q : Spot) (e : one_found r q ≡ found_of 0 (mended_at s p)) where
         abbrev i : Item
         i = (found_gives 0 (mended_at s p) r q e).0
 

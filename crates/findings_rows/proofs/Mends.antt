@@ -6,39 +6,36 @@ use mathlib.Core.List.{List, [], ◌∷◌}
 use lib.ListN.{length, drop, length-drop}
 use lib.Dec.{eqb}
 use native.Mathlib.Omega.{arith}
-use Rattle.std.specs.Prelude.{if◌then◌else◌}
+use Rattle.std.specs.Prelude.{if◌then◌else◌, None, Option, Some}
 use Rattle.laws.specs.Quoted.{code}
 use Rattle.laws.proofs.Choice.{by_bool, impossible}
 use Rattle.items.specs.Kinds as kind
 use Rattle.items.specs.Items.{Item}
 use Rattle.items.specs.declared.Nine.{Nine}
 use Rattle.meaning.specs.Records.{packed}
-use Rattle.lexer.specs.Reading.{Turn, gives, ends, next_at, size_of, found_of}
+use Rattle.lexer.specs.Reading.{Turn, gives, ends, next_at, size_of, found_of, one_found}
 use Rattle.lexer.specs.declared.Spot.{Spot}
-use Rattle.lexer.specs.declared.Found.TheVariants.{One, End}
 use Rattle.lexer.proofs.Moves.{Moved}
 use Rattle.lexer.proofs.Nexts.{found_gives, found_ends, next_moved}
-use Rattle.findings_rows.specs.declared.Closing.{Closing}
-use Rattle.findings_rows.specs.declared.Closing.TheVariants.{Behind, Nowhere}
 use Rattle.findings_rows.specs.Mended.{slips, quote_of, closing, rest_from, closing_of, spot_at, slip_turn, mend_turn, mended_at}
 use Rattle.findings_rows.specs.Inner.{ended_nine, unclosed_nine, mended_by, mend_nine}
 
 -- ---- where the rest ends
 
 -- behind a byte of those that are looked at
-pub closing_inside : (quote : ℕ) (escaped : Bool) (at : ℕ) (bs : List ℕ) (e : ℕ) → closing quote escaped at bs ≡ Behind e → (at < e) × (e ≤ at + length bs)
+pub closing_inside : (quote : ℕ) (escaped : Bool) (at : ℕ) (bs : List ℕ) (e : ℕ) → closing quote escaped at bs ≡ Some e → (at < e) × (e ≤ at + length bs)
 unfolding closing
 closing_inside quote escaped at [] e h = impossible cc
 closing_inside quote true at (b ∷ bs) e h = let r = closing_inside quote false (at + 1) bs e h in (omega (arith, r), omega (arith, r))
 closing_inside quote false at (b ∷ bs) e h = by_bool (eqb b quote)
-    (λ t. let z : Behind (at + 1) ≡ Behind e = rw t at h in let y : at + 1 ≡ e = cc in (omega arith, omega arith))
+    (λ t. let z : Some (at + 1) ≡ Some e = rw t at h in let y : at + 1 ≡ e = cc in (omega arith, omega arith))
     (λ t. let r = closing_inside quote (eqb b (code "\\")) (at + 1) bs e (rw t at h) in (omega (arith, r), omega (arith, r)))
 
 rest_near : (b : Bool) (at : ℕ) → (at ≤ (if b then at - 1 else at) + 1) × ((if b then at - 1 else at) ≤ at)
 rest_near true at = (omega arith, omega arith)
 rest_near false at = (omega arith, omega arith)
 
-pub closing_past : (s : List ℕ) (k start at e : ℕ) → at ≤ length s → closing_of s k start at ≡ Behind e → (at ≤ e) × (e ≤ length s)
+pub closing_past : (s : List ℕ) (k start at e : ℕ) → at ≤ length s → closing_of s k start at ≡ Some e → (at ≤ e) × (e ≤ length s)
 closing_past s k start at e h f =
     let n = rest_near (eqb k (kind.first_error + kind.UnclosedHexEscape)) at in
     let r = closing_inside (quote_of s start) false (rest_from k at) (drop (rest_from k at) s) e f in
@@ -57,14 +54,14 @@ pub record Forward (s : List ℕ) (p q : Spot) : Type 0 where
   pub inside : q.at ≤ length s
 
 module _ (s : List ℕ) (p : Spot) where
-  slip_forward : (i : Item) (q : Spot) → Moved s p i q → (c : Closing) → closing_of s i.kind i.start q.at ≡ c
+  slip_forward : (i : Item) (q : Spot) → Moved s p i q → (c : Option ℕ) → closing_of s i.kind i.start q.at ≡ c
       → (j : Item) (t : Spot) → slip_turn s i q c ≡ gives j t → Forward s p t
-  slip_forward i q m (Behind e) f j t h =
+  slip_forward i q m (Some e) f j t h =
       let u : spot_at q e ≡ t = cc in
       let r = closing_past s i.kind i.start q.at e m.inside f in
       subst (Forward s p) u
       (record { smaller = omega (arith, m.smaller, size_on s q e r.0); ahead = omega (arith, m.memory, r); inside = r.1 })
-  slip_forward i q m Nowhere f j t h =
+  slip_forward i q m None f j t h =
       let u : spot_at q (length s) ≡ t = cc in
       subst (Forward s p) u
       (record { smaller = omega (arith, m.smaller, size_on s q (length s) m.inside); ahead = omega (arith, m.memory, m.inside); inside = omega arith })
@@ -85,32 +82,32 @@ module _ (s : List ℕ) (p : Spot) where
 
 -- ---- in nine words
 
-closing_is : (s : List ℕ) (k start at quote from : ℕ) (o : Closing) → quote ≡ quote_of s start → from ≡ rest_from k at
+closing_is : (s : List ℕ) (k start at quote from : ℕ) (o : Option ℕ) → quote ≡ quote_of s start → from ≡ rest_from k at
     → o ≡ closing quote false from (drop from s) → closing_of s k start at ≡ o
 closing_is s k start at quote from o hq hf ho =
     ap (λ (x : ℕ). closing x false (rest_from k at) (drop (rest_from k at) s)) (sym hq)
     ∙ ap (λ (x : ℕ). closing quote false x (drop x s)) (sym hf) ∙ sym ho
 
-module _ (s : List ℕ) (r : Nine) (q : Spot) (quote from : ℕ) (o : Closing) (hq : quote ≡ quote_of s r.start) (hf : from ≡ rest_from r.kind q.at)
+module _ (s : List ℕ) (r : Nine) (q : Spot) (quote from : ℕ) (o : Option ℕ) (hq : quote ≡ quote_of s r.start) (hf : from ≡ rest_from r.kind q.at)
     (ho : o ≡ closing quote false from (drop from s)) where
   found : closing_of s r.kind r.start q.at ≡ o
   found = closing_is s r.kind r.start q.at quote from o hq hf ho
 
-  pub behind_inside : (e : ℕ) → o ≡ Behind e → q.at ≤ length s → e ≤ length s
+  pub behind_inside : (e : ℕ) → o ≡ Some e → q.at ≤ length s → e ≤ length s
   behind_inside e h l = (closing_past s r.kind r.start q.at e l (found ∙ h)).1
 
-  pub mend_behind : (e : ℕ) → o ≡ Behind e → (x : Nine) (y : Spot) → x ≡ ended_nine e r → y ≡ spot_at q e → One x y ≡ mend_nine s r q
-  mend_behind e h x y hx hy = ap (λ (u : Nine). One u y) hx ∙ ap (One (ended_nine e r)) hy ∙ ap (mended_by s r q) (sym (found ∙ h))
+  pub mend_behind : (e : ℕ) → o ≡ Some e → (x : Nine) (y : Spot) → x ≡ ended_nine e r → y ≡ spot_at q e → one_found x y ≡ mend_nine s r q
+  mend_behind e h x y hx hy = ap (λ (u : Nine). one_found u y) hx ∙ ap (one_found (ended_nine e r)) hy ∙ ap (mended_by s r q) (sym (found ∙ h))
 
-  pub mend_nowhere : o ≡ Nowhere → (x : Nine) (y : Spot) → x ≡ unclosed_nine quote r.start (length s) → y ≡ spot_at q (length s) → One x y ≡ mend_nine s r q
+  pub mend_nowhere : o ≡ None → (x : Nine) (y : Spot) → x ≡ unclosed_nine quote r.start (length s) → y ≡ spot_at q (length s) → one_found x y ≡ mend_nine s r q
   mend_nowhere h x y hx hy =
-      ap (λ (u : Nine). One u y) (hx ∙ ap (λ (k : ℕ). unclosed_nine k r.start (length s)) hq)
-      ∙ ap (One (unclosed_nine (quote_of s r.start) r.start (length s))) hy
+      ap (λ (u : Nine). one_found u y) (hx ∙ ap (λ (k : ℕ). unclosed_nine k r.start (length s)) hq)
+      ∙ ap (one_found (unclosed_nine (quote_of s r.start) r.start (length s))) hy
       ∙ ap (mended_by s r q) (sym (found ∙ h))
 
-slip_packed : (s : List ℕ) (i : Item) (q : Spot) (c : Closing) → mended_by s (packed 0 i) q c ≡ found_of 0 (slip_turn s i q c)
-slip_packed s i q (Behind e) = refl
-slip_packed s i q Nowhere = refl
+slip_packed : (s : List ℕ) (i : Item) (q : Spot) (c : Option ℕ) → mended_by s (packed 0 i) q c ≡ found_of 0 (slip_turn s i q c)
+slip_packed s i q (Some e) = refl
+slip_packed s i q None = refl
 
 pub mend_slip : (s : List ℕ) (i : Item) (q : Spot) → slips s i.kind i.start ≡ true
     → mend_turn s (gives i q) ≡ slip_turn s i q (closing_of s i.kind i.start q.at)
@@ -120,7 +117,7 @@ pub mend_fine : (s : List ℕ) (i : Item) (q : Spot) → slips s i.kind i.start 
 mend_fine s i q b = rw b
 
 module _ (s : List ℕ) (p : Spot) where
-  module _ (r : Nine) (q : Spot) (e : One r q ≡ found_of 0 (next_at s p)) where
+  module _ (r : Nine) (q : Spot) (e : one_found r q ≡ found_of 0 (next_at s p)) where
     abbrev i : Item
     i = (found_gives 0 (next_at s p) r q e).0
 
@@ -146,11 +143,11 @@ module _ (s : List ℕ) (p : Spot) where
         ∙ slip_packed s i q (closing_of s i.kind i.start q.at)
         ∙ sym (ap (found_of 0) (turned ∙ mend_slip s i q t))
 
-    pub fine_is : slips s r.kind r.start ≡ false → One r q ≡ found_of 0 (mended_at s p)
+    pub fine_is : slips s r.kind r.start ≡ false → one_found r q ≡ found_of 0 (mended_at s p)
     fine_is b =
         let t : slips s i.kind i.start ≡ false = ap (λ (x : Nine). slips s x.kind x.start) (sym is_packed) ∙ b in
         e ∙ ap (found_of 0) (gave ∙ sym (turned ∙ mend_fine s i q t))
 
-  pub end_is : End ≡ found_of 0 (next_at s p) → End ≡ found_of 0 (mended_at s p)
+  pub end_is : None ≡ found_of 0 (next_at s p) → None ≡ found_of 0 (mended_at s p)
   unfolding mended_at
   end_is e = ap (found_of 0) (sym (ap (mend_turn s) (found_ends 0 (next_at s p) e)))

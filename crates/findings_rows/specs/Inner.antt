@@ -1,15 +1,12 @@
 -- The same as the code hands it on: an item in nine words, and the record of a row.
-use Rattle.std.specs.Prelude.{ℕ, suc, ◌-◌, List, length, leb, if◌then◌else◌}
+use Rattle.std.specs.Prelude.{ℕ, suc, ◌-◌, List, length, leb, if◌then◌else◌, None, Option, Some}
 use Rattle.items.specs.Kinds as kind
 use Rattle.items.specs.declared.Nine.{Nine}
 use Rattle.items.specs.declared.Record.{Record}
 use Rattle.meaning.specs.Records.{packed}
-use Rattle.lexer.specs.Reading.{size_of}
+use Rattle.lexer.specs.Reading.{size_of, one_found}
 use Rattle.lexer.specs.declared.Spot.{Spot}
 use Rattle.lexer.specs.declared.Found.{Found}
-use Rattle.lexer.specs.declared.Found.TheVariants.{One}
-use Rattle.findings_rows.specs.declared.Closing.{Closing}
-use Rattle.findings_rows.specs.declared.Closing.TheVariants.{Behind, Nowhere}
 use Rattle.findings_rows.specs.Mended.{closing_of, quote_of, spot_at, unclosed_at, mended_from}
 use Rattle.findings_rows.specs.Rows.{rows_from}
 
@@ -31,11 +28,11 @@ abbrev pub unclosed_nine : ℕ → ℕ → ℕ → Nine
 unclosed_nine quote start e = packed 0 (unclosed_at quote start e)
 
 -- a slip mended
-abbrev pub mended_by : List ℕ → Nine → Spot → Closing → Found
-mended_by source r q (Behind e) = One (ended_nine e r) (spot_at q e)
-mended_by source r q Nowhere = One (unclosed_nine (quote_of source r.start) r.start (length source)) (spot_at q (length source))
+abbrev pub mended_by : List ℕ → Nine → Spot → Option ℕ → Option Found
+mended_by source r q (Some e) = one_found (ended_nine e r) (spot_at q e)
+mended_by source r q None = one_found (unclosed_nine (quote_of source r.start) r.start (length source)) (spot_at q (length source))
 
-abbrev pub mend_nine : List ℕ → Nine → Spot → Found
+abbrev pub mend_nine : List ℕ → Nine → Spot → Option Found
 mend_nine source r q = mended_by source r q (closing_of source r.kind r.start q.at)
 
 -- the record that has the words of a row

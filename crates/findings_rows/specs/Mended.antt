@@ -1,6 +1,6 @@
 -- The mended reading of a plan: its items in report mode, comments skipped. One slip is one finding: after a bad escape the rest of its
 -- string does not come as more errors.
-use Rattle.std.specs.Prelude.{ℕ, zero, suc, ◌+◌, ◌-◌, Bool, true, false, not, ◌&&◌, List, [], ◌∷◌, length, drop, eqb, ltb, if◌then◌else◌}
+use Rattle.std.specs.Prelude.{ℕ, zero, suc, ◌+◌, ◌-◌, Bool, true, false, not, ◌&&◌, List, [], ◌∷◌, length, drop, eqb, ltb, if◌then◌else◌, None, Option, Some}
 use Rattle.laws.specs.Quoted.{code, one_of}
 use Rattle.laws.specs.Texts.{starts}
 use Rattle.items.specs.Kinds as kind
@@ -10,8 +10,6 @@ use Rattle.items.specs.Whole.{limit}
 use Rattle.lexer.specs.Opening.{opening}
 use Rattle.lexer.specs.Reading.{Turn, gives, ends, next_at, size_of, and_then}
 use Rattle.lexer.specs.declared.Spot.{Spot}
-use Rattle.findings_rows.specs.declared.Closing.{Closing}
-use Rattle.findings_rows.specs.declared.Closing.TheVariants.{Behind, Nowhere}
 
 -- ---- slips
 
@@ -41,12 +39,12 @@ quote_of source start = if starts (code "\"") (drop start source) then code "\""
 
 -- The place behind the first quote from the place `at` on, where these bytes stand. A backslash takes the next byte with it; `escaped`
 -- says that one stands before
-unfoldable pub closing : ℕ → Bool → ℕ → List ℕ → Closing
-closing quote escaped at [] = Nowhere
+unfoldable pub closing : ℕ → Bool → ℕ → List ℕ → Option ℕ
+closing quote escaped at [] = None
 closing quote escaped at (b ∷ bs) =
     let past = closing quote false (at + 1) bs in
     let on = closing quote (eqb b (code "\\")) (at + 1) bs in
-    if escaped then past else if eqb b quote then Behind (at + 1) else on
+    if escaped then past else if eqb b quote then Some (at + 1) else on
 
 -- Where the rest begins, by the error's kind and the place past its extent. What breaks off the digits of a hex escape belongs to the
 -- extent, and may be the closing quote, `"\x4"`, or a backslash
@@ -72,11 +70,11 @@ unclosed_at quote start e = record { kind = unclosed_kind quote; detail = 0; sta
 
 -- The error's extent goes up to behind the closing quote, and reading goes on there; its place stays. Where there is no closing quote,
 -- that is the error, from the item's start to the end of the text
-abbrev pub slip_turn : List ℕ → Item → Spot → Closing → Turn
-slip_turn source i q (Behind e) = gives (ended_at e i) (spot_at q e)
-slip_turn source i q Nowhere = gives (unclosed_at (quote_of source i.start) i.start (length source)) (spot_at q (length source))
+abbrev pub slip_turn : List ℕ → Item → Spot → Option ℕ → Turn
+slip_turn source i q (Some e) = gives (ended_at e i) (spot_at q e)
+slip_turn source i q None = gives (unclosed_at (quote_of source i.start) i.start (length source)) (spot_at q (length source))
 
-abbrev pub closing_of : List ℕ → ℕ → ℕ → ℕ → Closing
+abbrev pub closing_of : List ℕ → ℕ → ℕ → ℕ → Option ℕ
 closing_of source k start at = closing (quote_of source start) false (rest_from k at) (drop (rest_from k at) source)
 
 abbrev pub mend_turn : List ℕ → Turn → Turn

@@ -22,15 +22,6 @@ use slips::{is_slip, mend};
 
 mod slips;
 
-// The place behind a closing quote.
-#[derive(Clone, Copy)]
-pub enum Closing {
-    // |a|
-    Behind(usize),
-    // |a
-    Nowhere,
-}
-
 // No error, and no error's detail.
 const NO_ERROR: u32 = 0;
 
@@ -38,19 +29,15 @@ const NO_ERROR: u32 = 0;
 const FREE: usize = 0;
 
 // The next item from a spot on, a slip mended.
-fn next_row(source: &[u8], spot: Spot) -> Found
+fn next_row(source: &[u8], spot: Spot) -> Option<Found>
     requires { length source.now ≤ limit }
     ensures { result ≡ found_of 0 (mended_at source.now spot) }
 {
-    match next_item(source, spot, FREE) {
-        Found::One(r, q) => {
-            if is_slip(source, r.kind, r.start as usize) {
-                return mend(source, r, q);
-            }
-            Found::One(r, q)
-        }
-        Found::End => Found::End,
+    let found = next_item(source, spot, FREE)?;
+    if is_slip(source, found.nine.kind, found.nine.start as usize) {
+        return mend(source, found.nine, found.after);
     }
+    Some(found)
 }
 
 // The row of an item.
@@ -110,19 +97,13 @@ fn lay_from(source: &[u8], spot: Spot, words: &mut [u32]) -> usize
     let mut p = spot;
     let mut depth: u32 = 0;
     let mut w: usize = 0;
-    loop {
-        match next_row(source, p) {
-            Found::One(r, q) => {
-                lay(words, w, row_of(r, depth));
-                depth = depth_after(r.kind, depth);
-                w += RECORD_WORDS;
-                p = q;
-            }
-            Found::End => {
-                return w / RECORD_WORDS;
-            }
-        }
+    while let Some(found) = next_row(source, p) {
+        lay(words, w, row_of(found.nine, depth));
+        depth = depth_after(found.nine.kind, depth);
+        w += RECORD_WORDS;
+        p = found.after;
     }
+    w / RECORD_WORDS
 }
 
 // Writes the rows of a plan from the start of `words` on, as many whole ones as fit, and answers how many there are. A text over the limit

@@ -5,7 +5,6 @@ ghost use Rattle.items.specs.Whole.{limit};
 ghost use Rattle.findings_rows.specs.Mended.{escape_errors, character_at, slips, quote_of, closing, rest_from, spot_at, unclosed_kind};
 ghost use Rattle.findings_rows.specs.Inner.{ended_nine, unclosed_nine, mend_nine};
 
-use crate::Closing;
 use byte_runs::starts_at;
 use items::Nine;
 use items::kinds::{
@@ -71,7 +70,7 @@ fn quote_of(source: &[u8], start: usize) -> u8
 }
 
 // Behind the first quote from a place on; a backslash takes the next byte with it.
-fn past_quote(source: &[u8], quote: u8, from: usize) -> Closing
+fn past_quote(source: &[u8], quote: u8, from: usize) -> Option<usize>
     ensures { result ≡ closing quote false from (drop from source.now) }
 {
     let mut at = from;
@@ -83,12 +82,12 @@ fn past_quote(source: &[u8], quote: u8, from: usize) -> Closing
             escaped = false;
         } else {
             if b == quote {
-                return Closing::Behind(at);
+                return Some(at);
             }
             escaped = b == b'\\';
         }
     }
-    Closing::Nowhere
+    None
 }
 
 // Where the rest of the text of a slip begins, by its kind and the place past its extent.
@@ -163,14 +162,20 @@ fn unclosed(quote: u8, start: u32, end: u32) -> Nine
 }
 
 // A slip mended: its item, and the spot after it.
-pub fn mend(source: &[u8], r: Nine, after: Spot) -> Found
+pub fn mend(source: &[u8], r: Nine, after: Spot) -> Option<Found>
     requires { (length source.now ≤ limit) × (after.at ≤ length source.now) }
     ensures { result ≡ mend_nine source.now r after }
 {
     let quote = quote_of(source, r.start as usize);
     let end = source.len();
     match past_quote(source, quote, rest_from(r.kind, after.at)) {
-        Closing::Behind(e) => Found::One(ended(r, e as u32), spot_at(after, e)),
-        Closing::Nowhere => Found::One(unclosed(quote, r.start, end as u32), spot_at(after, end)),
+        Some(e) => Some(Found {
+            nine: ended(r, e as u32),
+            after: spot_at(after, e),
+        }),
+        None => Some(Found {
+            nine: unclosed(quote, r.start, end as u32),
+            after: spot_at(after, end),
+        }),
     }
 }

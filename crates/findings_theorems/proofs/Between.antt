@@ -1,7 +1,7 @@
 -- The items of the mended reading of a UTF-8 text: both ends of the extent and of the place stand between two characters, and so do the places
 -- behind an error's opening characters. A turn starts between characters, since reading goes on where an extent ends, behind a closing
 -- quote, or at the end.
-use Prim.Native.Nat.{ℕ, zero, suc, ◌+◌, ◌-◌, ◌≤◌, ◌<◌}
+use Prim.Native.Nat.{ℕ, zero, suc, ◌+◌, ◌≤◌, ◌<◌}
 use mathlib.Core.Path.{◌≡◌, refl, sym, ap, subst, ◌∙◌}
 use mathlib.Core.Bool.{Bool, true, false, ◌&&◌}
 use mathlib.Core.List.{List, [], ◌∷◌, ◌++◌}
@@ -11,14 +11,13 @@ use lib.Dec.{eqb, ltb}
 use native.Mathlib.Omega.{arith}
 use native.Mathlib.Numerals.{add-one}
 use borrow.Author.Tests.{eqb-true}
-use Rattle.std.specs.Prelude.{if◌then◌else◌}
+use Rattle.std.specs.Prelude.{None, Option, Some}
 use Rattle.laws.specs.Quoted.{code}
 use Rattle.laws.specs.Texts.{starts}
 use Rattle.laws.proofs.Choice.{by_bool, if_all, impossible}
 use Rattle.chars.specs.Utf8.{first_bad, chars}
 use Rattle.chars.specs.Encode.{width, bytes_of}
 use Rattle.chars.specs.Blank.{is_blank}
-use Rattle.chars.specs.declared.Utf8.TheVariants.{Good}
 use Rattle.chars.proofs.Width.{wide}
 use Rattle.items.specs.Kinds as kind
 use Rattle.items.specs.Readers.{Read, read_item}
@@ -38,8 +37,6 @@ use Rattle.lines.proofs.Between.{Between}
 use Rattle.lines_theorems.proofs.Along.{Along, at_start, read_along}
 use Rattle.lines_theorems.proofs.Failing.{stands_at}
 use Rattle.lines_theorems.proofs.Records.{Marked, extent_marked, every_both}
-use Rattle.findings_rows.specs.declared.Closing.{Closing}
-use Rattle.findings_rows.specs.declared.Closing.TheVariants.{Behind, Nowhere}
 use Rattle.findings_rows.specs.Mended.{slips, quote_of, closing, rest_from, closing_of, unclosed_kind, unclosed_at, slip_turn, mend_turn, mended_at, mended_from, mended_of, opening_spot}
 use Rattle.findings_rows.proofs.Lays.{from_gives, from_ends}
 use Rattle.findings_theorems.proofs.Unmended.{slip_wrong}
@@ -47,7 +44,7 @@ use Rattle.findings_theorems.proofs.Spans.{four}
 use Rattle.findings_theorems.proofs.Characters.{whole, every_char, along_all, start_between, end_between, byte_between, From, from_between}
 use Rattle.findings_theorems.proofs.Openers.{OpenedItem, extent_opened}
 
-module _ (s : List ℕ) (good : first_bad s ≡ Good) where
+module _ (s : List ℕ) (good : first_bad s ≡ None) where
   abbrev B : ℕ → Type 0
   B = Between s
 
@@ -154,13 +151,13 @@ module _ (s : List ℕ) (good : first_bad s ≡ Good) where
   -- ---- a slip mended
 
   -- behind a closing quote
-  closing_between : (quote : ℕ) → quote < 0x80 → (escaped : Bool) (at : ℕ) (bs : List ℕ) → drop at s ≡ bs → (e : ℕ) → closing quote escaped at bs ≡ Behind e
+  closing_between : (quote : ℕ) → quote < 0x80 → (escaped : Bool) (at : ℕ) (bs : List ℕ) → drop at s ≡ bs → (e : ℕ) → closing quote escaped at bs ≡ Some e
       → B e
   unfolding closing
   closing_between quote low escaped at [] f e h = impossible cc
   closing_between quote low true at (b ∷ bs) f e h = closing_between quote low false (at + 1) bs (passed s at (b ∷ []) bs f) e h
   closing_between quote low false at (b ∷ bs) f e h = by_bool (eqb b quote)
-      (λ t. let z : Behind (at + 1) ≡ Behind e = rw t at h in
+      (λ t. let z : Some (at + 1) ≡ Some e = rw t at h in
       let y : at + 1 ≡ e = cc in
       let k = stands_at at s b bs f in
       let x : suc at ≡ e = sym (add-one at) ∙ y in
@@ -180,9 +177,9 @@ module _ (s : List ℕ) (good : first_bad s ≡ Good) where
       other : unclosed_kind quote ≡ four → ⊥
       other = if_all (λ (n : ℕ). kind.first_error + n ≡ four → ⊥) (eqb quote (code "\"")) (λ k. omega arith) (λ k. omega arith)
 
-  slip_goes : (i : Item) (q : Spot) → kind.first_error ≤ i.kind → Goes (gives i q) → (c : Closing) → closing_of s i.kind i.start q.at ≡ c
+  slip_goes : (i : Item) (q : Spot) → kind.first_error ≤ i.kind → Goes (gives i q) → (c : Option ℕ) → closing_of s i.kind i.start q.at ≡ c
       → Goes (slip_turn s i q c)
-  slip_goes i q wrong h (Behind e) f =
+  slip_goes i q wrong h (Some e) f =
       let end : B e = closing_between (quote_of s i.start) (quote_low i.start) false (rest_from i.kind q.at) _ refl e f in
       let m : Marked B i = h.0.marked in (
         record {
@@ -192,7 +189,7 @@ module _ (s : List ℕ) (good : first_bad s ≡ Good) where
         },
         (end, h.1.1),
       )
-  slip_goes i q wrong h Nowhere f = (unclosed_stands (quote_of s i.start) i wrong h.0, (end_between s good, h.1.1))
+  slip_goes i q wrong h None f = (unclosed_stands (quote_of s i.start) i wrong h.0, (end_between s good, h.1.1))
 
   mend_goes : (t : Turn) → Goes t → Goes (mend_turn s t)
   mend_goes ends h = tt

@@ -1,5 +1,6 @@
 -- The characters of a text from a place between two of them on. What stands there is read as from the start: the bytes are those of characters,
 -- and every place between these is one between the text's. A bad sequence starts behind the characters before it.
+use Rattle.std.proofs.Common.{None, Some}
 use Prim.Native.Nat.{ℕ, zero, suc, ◌+◌, ◌-◌, ◌≤◌, ◌<◌}
 use mathlib.Core.Path.{◌≡◌, refl, sym, ap, subst, ◌∙◌}
 use mathlib.Core.List.{List, [], ◌∷◌, ◌++◌, append_assoc}
@@ -10,7 +11,6 @@ use native.Mathlib.Nat.{zero-add}
 use Rattle.laws.proofs.Choice.{impossible}
 use Rattle.chars.specs.Utf8.{Front, char, bad, cut, none, front, Sequence, onward, sequences, verdict, first_bad, chars}
 use Rattle.chars.specs.Encode.{utf8, width, bytes_of}
-use Rattle.chars.specs.declared.Utf8.TheVariants.{Good, Bad}
 use Rattle.chars.proofs.Bytes.{bytes_append}
 use Rattle.chars.proofs.Sequences.{char_some, not_none, sequences-char, sequences-bad, sequences-cut}
 use Rattle.chars.proofs.Spells.{Spells, spells}
@@ -36,21 +36,21 @@ unfolding bytes_of
 start_between s = (0, refl)
 
 abbrev BadBehind : ℕ → Type 0
-BadBehind n = (l : List ℕ) (at b : ℕ) → length l ≤ n → verdict (sequences 0 at l) ≡ Bad b → b ≡ at + length (bytes_of (chars l))
+BadBehind n = (l : List ℕ) (at b : ℕ) → length l ≤ n → verdict (sequences 0 at l) ≡ Some b → b ≡ at + length (bytes_of (chars l))
 
-bad_next : (n x : ℕ) (l : List ℕ) (at b : ℕ) → BadBehind n → length (x ∷ l) ≤ suc n → verdict (sequences 0 at (x ∷ l)) ≡ Bad b
+bad_next : (n x : ℕ) (l : List ℕ) (at b : ℕ) → BadBehind n → length (x ∷ l) ≤ suc n → verdict (sequences 0 at (x ∷ l)) ≡ Some b
     → b ≡ at + length (bytes_of (chars (x ∷ l)))
 unfolding bytes_of
 bad_next n x l at b ih h g = go (front (x ∷ l)) refl
   where
     -- nothing is read
-    at_once : chars (x ∷ l) ≡ [] → verdict (sequences 0 at (x ∷ l)) ≡ Bad at → b ≡ at + length (bytes_of (chars (x ∷ l)))
-    at_once e f = let z : Bad at ≡ Bad b = sym f ∙ g in let y : b ≡ at = cc in rw e (omega arith)
+    at_once : chars (x ∷ l) ≡ [] → verdict (sequences 0 at (x ∷ l)) ≡ Some at → b ≡ at + length (bytes_of (chars (x ∷ l)))
+    at_once e f = let z : Some at ≡ Some b = sym f ∙ g in let y : b ≡ at = cc in rw e (omega arith)
 
     go : (F : Front) → front (x ∷ l) ≡ F → b ≡ at + length (bytes_of (chars (x ∷ l)))
     go (char c w) f =
         let wide : w ≡ width c = char-width (x ∷ l) c w (subst (Spells (x ∷ l)) f (spells (x ∷ l))) in
-        let rest : verdict (sequences 0 (at + w) (drop w (x ∷ l))) ≡ Bad b = sym (ap verdict (sequences-char at (x ∷ l) c w f)) ∙ g in
+        let rest : verdict (sequences 0 (at + w) (drop w (x ∷ l))) ≡ Some b = sym (ap verdict (sequences-char at (x ∷ l) c w f)) ∙ g in
         let on : b ≡ at + w + length (bytes_of (chars (drop w (x ∷ l)))) =
         ih (drop w (x ∷ l)) (at + w) b (omega (arith, length-drop w (x ∷ l), char_some (x ∷ l) c w f)) rest in
         rw (chars-char (x ∷ l) c w f) (omega (arith, on, length_bytes c (chars (drop w (x ∷ l)))))
@@ -72,7 +72,7 @@ bad_behind : (n : ℕ) → BadBehind n
 bad_behind zero = bad_none
 bad_behind (suc n) = bad_turn n (bad_behind n)
 
-pub bad_between : (s : List ℕ) (b : ℕ) → first_bad s ≡ Bad b → Between s b
+pub bad_between : (s : List ℕ) (b : ℕ) → first_bad s ≡ Some b → Between s b
 unfolding first_bad
 bad_between s b g =
     let all : take (length (chars s)) (chars s) ≡ chars s = take_all (length (chars s)) (chars s) (omega arith) in
@@ -89,7 +89,7 @@ scalars : (cs : List ℕ) → Every IsChar cs → Scalars cs
 scalars [] h = tt
 scalars (c ∷ cs) h = (h.0, scalars cs h.1)
 
-module _ (s : List ℕ) (good : first_bad s ≡ Good) where
+module _ (s : List ℕ) (good : first_bad s ≡ None) where
   abbrev B : ℕ → Type 0
   B = Between s
 

@@ -4,12 +4,12 @@ use Prim.Native.Nat.{ℕ, zero, suc, ◌+◌, ◌-◌, ◌*◌, ◌≤◌, ◌<�
 use mathlib.Core.Path.{◌≡◌, refl, sym, ap, ◌∙◌}
 use mathlib.Core.Bool.{Bool, true, false}
 use mathlib.Core.List.{List, [], ◌∷◌, ◌++◌}
-use mathlib.Core.Logic.{◌⊎◌, ⊎_elim}
+use mathlib.Core.Logic.{⊎_elim}
 use lib.ListN.{length, get_or}
 use lib.Dec.{eqb, leb, ltb}
 use native.Mathlib.Omega.{arith}
 use borrow.Author.Tests.{eqb-true, eqb-false, eq-eqb, ltb-true, lt-ltb, leb-true, leb-false}
-use Rattle.std.specs.Prelude.{if◌then◌else◌}
+use Rattle.std.specs.Prelude.{None, Option, Some}
 use Rattle.laws.specs.Quoted.{within}
 use Rattle.laws.proofs.Choice.{by_bool, if_all, if_is}
 use Rattle.chars.specs.Utf8.{Sequence, read, broken, short}
@@ -28,10 +28,7 @@ use Rattle.findings.specs.Slips.{is_name, odd_code, first_odd, odd_in, like_numb
 use Rattle.findings.specs.Told.{error_of, swallow_told, text_told, number_told, name_or_nothing, row_told, told_from, errors_in}
 use Rattle.findings.specs.declared.Finding.{Finding}
 use Rattle.findings.specs.declared.Row.{Row}
-use Rattle.findings.specs.declared.RowTold.{RowTold}
-use Rattle.findings.specs.declared.RowTold.TheVariants.{Nothing, One}
 use Rattle.findings.specs.declared.ListTold.{ListTold}
-use Rattle.findings.specs.declared.ListTold.TheVariants.{Silent, At}
 use Rattle.findings_theorems.proofs.Unmended.{Fine}
 use Rattle.findings_theorems.proofs.Layouts.{LaidItem}
 use Rattle.findings_theorems.proofs.Words as words
@@ -68,10 +65,10 @@ module _ (f : ℕ → List Finding) where
       ∙ omega (arith, h p (omega arith) (omega arith), quiet_all n (p + 1) (λ q l m. h q (omega arith) (omega arith)))
 
 -- told without an error
-abbrev pub Mild : RowTold → Type 0
+abbrev pub Mild : Option Finding → Type 0
 Mild t = errors_in (listed t) ≡ 0
 
-pub loud : (f : Finding) → f.severity ≡ error → errors_in (listed (One f)) ≡ 0 → ⊥
+pub loud : (f : Finding) → f.severity ≡ error → errors_in (listed (Some f)) ≡ 0 → ⊥
 unfolding errors_in
 loud f e h = let z : ◌≡◌ {A = ℕ} 1 0 = rw (eq-eqb f.severity error e) at h in omega arith
 
@@ -79,11 +76,11 @@ pub error_loud : (r : Row) → Mild (error_of r) → ⊥
 unfolding errors_in
 error_loud r h = let z : ◌≡◌ {A = ℕ} 1 0 = h in omega arith
 
-pub mild_nothing : Mild Nothing
+pub mild_nothing : Mild None
 unfolding errors_in
 mild_nothing = refl
 
-mild_warning : (n d a b : ℕ) → Mild (One (single warning n d a b))
+mild_warning : (n d a b : ℕ) → Mild (Some (single warning n d a b))
 unfolding errors_in
 mild_warning n d a b = refl
 
@@ -102,9 +99,9 @@ mild_number source rows p =
     if_all Mild (like_number source (row_at rows p).start)
     (if_all Mild (comma_follows source rows p) (mild_warning comma_number _ _ _) (mild_warning number_name _ _ _)) mild_nothing
 
-mild_else : (t u : RowTold) → Mild t → Mild u → Mild (or_else t u)
-mild_else Nothing u h k = k
-mild_else (One f) u h k = h
+mild_else : (t u : Option Finding) → Mild t → Mild u → Mild (or_else t u)
+mild_else None u h k = k
+mild_else (Some f) u h k = h
 
 mild_name : (source rows : List ℕ) (p : ℕ) → Mild (name_or_nothing source rows p)
 unfolding name_or_nothing name_told
@@ -183,9 +180,9 @@ module _ (is : List Item) where
 -- ---- the finding about lists
 
 -- an error, told at a row
-abbrev pub Shows : List ℕ → ListTold → Type 0
-Shows rows Silent = ⊥
-Shows rows (At i f) = (i < count_of rows) × (f.severity ≡ error)
+abbrev pub Shows : List ℕ → Option ListTold → Type 0
+Shows rows None = ⊥
+Shows rows (Some t) = (t.row < count_of rows) × (t.finding.severity ≡ error)
 
 last_below : (f : ℕ → Bool) (n m : ℕ) → n ≤ m → 0 < m → last_before f n < m
 unfolding last_before

@@ -1,29 +1,27 @@
 -- "`plancheck` says ok exactly when the reader and the nested lists have nothing to refuse": `clean_exactly`, of what the call answers.
 use Prim.Native.Nat.{ℕ, ◌/◌, ◌≤◌, ◌<◌}
-use mathlib.Core.Path.{◌≡◌, refl, sym, ◌∙◌, subst}
+use mathlib.Core.Path.{◌≡◌, refl, sym, ap, ◌∙◌, subst}
 use mathlib.Core.List.{List, [], ◌∷◌}
 use lib.ListN.{length}
 use lib.Dec.{eqb, leb, ltb}
 use native.Mathlib.Omega.{arith}
 use borrow.Author.Tests.{ltb-false, le-ltb}
-use Rattle.std.specs.Prelude.{if◌then◌else◌}
+use Rattle.std.specs.Prelude.{if◌then◌else◌, None, Option, Some}
 use Rattle.laws.specs.Quoted.{code}
 use Rattle.laws.proofs.Choice.{by_bool, if_all, impossible}
 use Rattle.chars.specs.Utf8.{first_bad}
-use Rattle.chars.specs.declared.Utf8.{Utf8}
-use Rattle.chars.specs.declared.Utf8.TheVariants.{Good, Bad}
 use Rattle.items.specs.Kinds as kind
 use Rattle.items.specs.Items.{Item, records, record_words}
 use Rattle.items.specs.Whole.{limit}
 use Rattle.items.proofs.Every.{Every}
-use Rattle.nested.specs.declared.Nested.{Nested}
-use Rattle.nested.specs.declared.Nested.TheVariants.{Refused}
+use Rattle.nested.specs.Lent.{Nested, Refused}
 use Rattle.findings_rows.specs.Mended.{mended_of}
 use Rattle.findings.specs.Finding.{error}
 use Rattle.findings.specs.Told.{errors_in, told_of}
-use Rattle.findings.specs.Find.{told_if, find_of, needed_rows, call_of}
+use Rattle.findings.specs.Find.{told_if, find_of, needed_rows, found, too_few, call_of}
+use Rattle.findings.specs.Laid.{counted}
 use Rattle.findings.specs.declared.Finding.{Finding}
-use Rattle.findings.specs.declared.FindAnswer.TheVariants.{Found, TooFew}
+use Rattle.findings.specs.declared.Counted.{Counted}
 use Rattle.findings_theorems.proofs.Unmended.{Fine, reported, mended_clean, clean_same}
 use Rattle.findings_theorems.proofs.Layouts.{LaidItem, error_laid, read_laid}
 use Rattle.findings_theorems.proofs.Turns.{mended_every}
@@ -35,7 +33,7 @@ use Rattle.findings_theorems.proofs.Records.{same_nested}
 -- comments skipped, form data
 pub record Accepted (s : List ℕ) : Type 0 where
   pub short : length s ≤ limit
-  pub utf8 : first_bad s ≡ Good
+  pub utf8 : first_bad s ≡ None
   pub fine : Every Fine (reported s)
   pub data_formed : Data (records 0 0 (reported s))
 
@@ -71,9 +69,9 @@ module _ (s : List ℕ) where
   unfolding errors_in
   one_error f e h = let z : ◌≡◌ {A = ℕ} 1 0 = rw e at h in absurd (omega arith)
 
-  find_only : (u : Utf8) → first_bad s ≡ u → length s ≤ limit → errors_in (told_if u s) ≡ 0 → Accepted s
-  find_only (Bad b) e short quiet = one_error _ refl quiet
-  find_only Good e short quiet = let r = told_only short quiet in record { short = short; utf8 = e; fine = r.0; data_formed = r.1 }
+  find_only : (u : Option ℕ) → first_bad s ≡ u → length s ≤ limit → errors_in (told_if u s) ≡ 0 → Accepted s
+  find_only (Some b) e short quiet = one_error _ refl quiet
+  find_only None e short quiet = let r = told_only short quiet in record { short = short; utf8 = e; fine = r.0; data_formed = r.1 }
 
   pub accepted_if_quiet : errors_in (find_of s) ≡ 0 → Accepted s
   unfolding find_of
@@ -86,12 +84,12 @@ module _ (s : List ℕ) where
   quiet_if_accepted a = rw (le-ltb limit (length s) a.short, a.utf8) (told_if_lem a.short a.fine a.data_formed)
 
   -- the call says that no finding is an error exactly if the plan is accepted
-  module _ (rows findings : List ℕ) (n errors : ℕ) (answered : (call_of s rows findings).answer ≡ Found n errors) where
+  module _ (rows findings : List ℕ) (n errors : ℕ) (answered : (call_of s rows findings).answer ≡ found n errors) where
     errors_are : errors ≡ errors_in (find_of s)
     unfolding call_of
     errors_are = by_bool (leb (length (needed_rows s)) (length rows / record_words))
-        (λ b. let z : Found (length (find_of s)) (errors_in (find_of s)) ≡ Found n errors = rw b at answered in let y : errors_in (find_of s) ≡ errors = cc in sym y)
-        (λ b. let z : TooFew (length (needed_rows s)) ≡ Found n errors = rw b at answered in impossible cc)
+        (λ b. let z : found (length (find_of s)) (errors_in (find_of s)) ≡ found n errors = rw b at answered in let y : counted (length (find_of s)) (errors_in (find_of s)) ≡ counted n errors = cc in ap (λ (k : Counted). k.errors) (sym y))
+        (λ b. let z : too_few (length (needed_rows s)) ≡ found n errors = rw b at answered in impossible cc)
 
     pub clean_exactly : (errors ≡ 0 → Accepted s) × (Accepted s → errors ≡ 0)
     clean_exactly = ((λ e. accepted_if_quiet (sym errors_are ∙ e)), (λ a. errors_are ∙ quiet_if_accepted a))

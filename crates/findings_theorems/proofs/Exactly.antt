@@ -7,7 +7,7 @@ use lib.ListN.{length, get_or}
 use lib.Dec.{eqb, ltb}
 use native.Mathlib.Omega.{arith}
 use borrow.Author.Tests.{eqb-true, eq-eqb, ltb-true, ltb-false}
-use Rattle.std.specs.Prelude.{if◌then◌else◌}
+use Rattle.std.specs.Prelude.{if◌then◌else◌, None, Option, Some}
 use Rattle.laws.proofs.Choice.{by_bool, and_true, and_no, no_yes, impossible}
 use Rattle.refusal.specs.Refusals as refusal
 use Rattle.items.specs.Kinds as kind
@@ -15,11 +15,9 @@ use Rattle.items.specs.Items.{Item, record_words}
 use Rattle.items.proofs.Every.{Every}
 use Rattle.nested.specs.Items.{count_of, class_at, items_of, items_from}
 use Rattle.nested.specs.Reader.{Result, Nodes, No, run, start, read_on}
-use Rattle.nested.specs.Lent.{fits, given, nested_of}
-use Rattle.nested.specs.declared.Nested.{Nested}
-use Rattle.nested.specs.declared.Nested.TheVariants.{Built, Refused}
+use Rattle.nested.specs.Lent.{fits, given, nested_of, Nested, Built, Refused}
 use Rattle.findings_rows.specs.Rows.{fine_row, rows_from}
-use Rattle.findings.specs.Finding.{error, listed}
+use Rattle.findings.specs.Finding.{listed}
 use Rattle.findings.specs.Rows.{row_at, last_row, first_from}
 use Rattle.findings.specs.Lists.{refused_list, nested_told, list_of}
 use Rattle.findings.specs.Slips.{is_swallower, swallower}
@@ -27,7 +25,6 @@ use Rattle.findings.specs.Told.{ends_in_text, left_over, error_told, swallow_tol
 use Rattle.findings.specs.declared.Finding.{Finding}
 use Rattle.findings.specs.declared.Row.{Row}
 use Rattle.findings.specs.declared.ListTold.{ListTold}
-use Rattle.findings.specs.declared.ListTold.TheVariants.{Silent, At}
 use Rattle.findings_theorems.proofs.Unmended.{Fine}
 use Rattle.findings_theorems.proofs.Layouts.{LaidItem}
 use Rattle.findings_theorems.proofs.Words as words
@@ -104,9 +101,9 @@ module _ (source : List ℕ) (is : List Item) where
     quiet_fine laid = no_error_items is laid (λ p h. quiet_rows p (omega (arith, count_is is)))
 
     -- a finding about lists would be told
-    quiet_shows : (t : ListTold) → list_of source rows ≡ t → Shows rows t → ⊥
-    quiet_shows Silent e h = h
-    quiet_shows (At i f) e h = loud f h.1 (rw (e, eq-eqb i i refl) at (quiet_list i h.0))
+    quiet_shows : (t : Option ListTold) → list_of source rows ≡ t → Shows rows t → ⊥
+    quiet_shows None e h = h
+    quiet_shows (Some t) e h = loud t.finding h.1 (rw (e, eq-eqb t.row t.row refl) at (quiet_list t.row h.0))
 
   -- ---- items without errors
 
@@ -156,7 +153,7 @@ module _ (source : List ℕ) (is : List Item) where
 
     -- ---- the other way round
 
-    silent : (a : Nested) → (nested_of rows []).answer ≡ a → Data rows → list_of source rows ≡ Silent
+    silent : (a : Nested) → (nested_of rows []).answer ≡ a → Data rows → list_of source rows ≡ None
     unfolding list_of refused_list
     silent (Built n) e h = ap (nested_told source rows) e
     silent (Refused n p) e h = let z : n ≡ refusal.few_nodes = h n p e in ap (nested_told source rows) e ∙ ap (λ (k : ℕ). refused_list source rows k p) z

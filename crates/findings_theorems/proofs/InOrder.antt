@@ -1,5 +1,6 @@
 -- `in_order`: findings come in the order of their places. What a row tells starts in the row's extent, and no row starts before the end of the
 -- one before it, but for the second name of `+foo`, of which the first tells nothing.
+use Rattle.std.proofs.Common.{None, Option, Some}
 use Prim.Native.Nat.{ℕ, zero, suc, ◌+◌, ◌-◌, ◌≤◌, ◌<◌}
 use mathlib.Core.Path.{◌≡◌, refl, sym, ap, ◌∙◌, subst}
 use mathlib.Core.Bool.{Bool, true, false, not, ◌&&◌}
@@ -13,20 +14,16 @@ use borrow.Author.Tests.{eqb-true, eq-eqb}
 use Rattle.laws.specs.Quoted.{code, within}
 use Rattle.laws.proofs.Choice.{by_bool, if_all, if_is}
 use Rattle.chars.specs.Utf8.{Sequence, read, broken, short, Front, char, bad, cut, none, front, onward, sequences, first_bad}
-use Rattle.chars.specs.declared.Utf8.{Utf8}
-use Rattle.chars.specs.declared.Utf8.TheVariants.{Good, Bad}
 use Rattle.refusal.specs.Refusals as refusal
 use Rattle.items.specs.Kinds as kind
 use Rattle.items.specs.Items.{Item, depth_after}
 use Rattle.items.specs.Whole.{limit}
 use Rattle.items.proofs.Every.{Every}
 use Rattle.nested.specs.Items.{count_of}
-use Rattle.nested.specs.Lent.{nested_of}
-use Rattle.nested.specs.declared.Nested.{Nested}
-use Rattle.nested.specs.declared.Nested.TheVariants.{Built, Refused}
+use Rattle.nested.specs.Lent.{nested_of, Nested, Built, Refused}
 use Rattle.findings_rows.specs.Mended.{mended_of}
 use Rattle.findings_rows.specs.Rows.{row_of, rows_from}
-use Rattle.findings.specs.Finding.{warning, error, single, listed}
+use Rattle.findings.specs.Finding.{warning, single, listed}
 use Rattle.findings.specs.Rows.{byte_at, part, row_at, last_row, depth_at, first_from}
 use Rattle.findings.specs.Lists.{wrong_close, misplaced_dot, mark_waits, bracket_open, is_misfit, refused_list, nested_told, list_of}
 use Rattle.findings.specs.Slips.{is_name, odd_code, first_odd, odd_in, like_number, comma_follows, number_slip, or_else, name_told, swallower, ends_otherwise}
@@ -34,10 +31,7 @@ use Rattle.findings.specs.Told.{left_over, error_told, swallow_told, text_told, 
 use Rattle.findings.specs.Find.{told_if, find_of}
 use Rattle.findings.specs.declared.Finding.{Finding}
 use Rattle.findings.specs.declared.Row.{Row}
-use Rattle.findings.specs.declared.RowTold.{RowTold}
-use Rattle.findings.specs.declared.RowTold.TheVariants.{Nothing, One}
 use Rattle.findings.specs.declared.ListTold.{ListTold}
-use Rattle.findings.specs.declared.ListTold.TheVariants.{Silent, At}
 use Rattle.findings_theorems.proofs.Words as words
 use Rattle.findings_theorems.proofs.Words.{Stands, stands, row_fine}
 use Rattle.findings_theorems.proofs.Clean.{laid_words, count_is, row_is, word_is, kind_is, error_is}
@@ -59,21 +53,21 @@ sorted_append lo m [] gs h s e t = sorted_lower lo m gs h t
 sorted_append lo m (f ∷ fs) gs h s e t = (s.0, sorted_append f.start m fs gs e.0 s.1 e.1 t)
 
 -- a finding, if there is one, that starts from a place to a place
-abbrev Between : ℕ → ℕ → RowTold → Type 0
-Between lo hi Nothing = Unit {0}
-Between lo hi (One f) = (lo ≤ f.start) × (f.start ≤ hi)
+abbrev Between : ℕ → ℕ → Option Finding → Type 0
+Between lo hi None = Unit {0}
+Between lo hi (Some f) = (lo ≤ f.start) × (f.start ≤ hi)
 
-two_sorted : (lo hi : ℕ) (t u : RowTold) → Between lo lo t → Between lo hi u → Sorted lo (listed t ++ listed u)
-two_sorted lo hi Nothing Nothing h k = tt
-two_sorted lo hi Nothing (One g) h k = (k.0, tt)
-two_sorted lo hi (One f) Nothing h k = (h.0, tt)
-two_sorted lo hi (One f) (One g) h k = (h.0, (omega (arith, h.1, k.0), tt))
+two_sorted : (lo hi : ℕ) (t u : Option Finding) → Between lo lo t → Between lo hi u → Sorted lo (listed t ++ listed u)
+two_sorted lo hi None None h k = tt
+two_sorted lo hi None (Some g) h k = (k.0, tt)
+two_sorted lo hi (Some f) None h k = (h.0, tt)
+two_sorted lo hi (Some f) (Some g) h k = (h.0, (omega (arith, h.1, k.0), tt))
 
-two_within : (lo hi : ℕ) (t u : RowTold) → lo ≤ hi → Between lo lo t → Between lo hi u → Every (λ (f : Finding). f.start ≤ hi) (listed t ++ listed u)
-two_within lo hi Nothing Nothing l h k = tt
-two_within lo hi Nothing (One g) l h k = (k.1, tt)
-two_within lo hi (One f) Nothing l h k = (omega (arith, h.1), tt)
-two_within lo hi (One f) (One g) l h k = (omega (arith, h.1), (k.1, tt))
+two_within : (lo hi : ℕ) (t u : Option Finding) → lo ≤ hi → Between lo lo t → Between lo hi u → Every (λ (f : Finding). f.start ≤ hi) (listed t ++ listed u)
+two_within lo hi None None l h k = tt
+two_within lo hi None (Some g) l h k = (k.1, tt)
+two_within lo hi (Some f) None l h k = (omega (arith, h.1), tt)
+two_within lo hi (Some f) (Some g) l h k = (omega (arith, h.1), (k.1, tt))
 
 -- ---- odd characters
 
@@ -102,9 +96,9 @@ odd_between lo hi (read c f t ∷ l) h = if_all (Between lo hi) (eqb (odd_code c
 odd_between lo hi (broken f t ∷ l) h = tt
 odd_between lo hi (short f ∷ l) h = tt
 
-else_between : (lo hi : ℕ) (t u : RowTold) → Between lo hi t → Between lo hi u → Between lo hi (or_else t u)
-else_between lo hi Nothing u h k = k
-else_between lo hi (One f) u h k = h
+else_between : (lo hi : ℕ) (t u : Option Finding) → Between lo hi t → Between lo hi u → Between lo hi (or_else t u)
+else_between lo hi None u h k = k
+else_between lo hi (Some f) u h k = h
 
 -- ---- what a row tells, from its start to its end
 
@@ -115,8 +109,8 @@ module _ (source rows : List ℕ) (p : ℕ) where
   name_between : r.start ≤ r.end → Between r.start r.end (name_told source rows p)
   unfolding name_told number_slip
   name_between h =
-      let B : RowTold → Type 0 = Between r.start r.end in
-      let here : B (One (single warning 1 0 r.start 0)) = (omega arith, h) in
+      let B : Option Finding → Type 0 = Between r.start r.end in
+      let here : B (Some (single warning 1 0 r.start 0)) = (omega arith, h) in
       else_between r.start r.end (odd_in source r.start r.end) (number_slip source rows p)
       (odd_between r.start r.end _
       (sequences_in (part source r.start r.end) 0 r.start r.start r.end (omega arith)
@@ -128,16 +122,16 @@ module _ (source rows : List ℕ) (p : ℕ) where
   Whole = (r.start ≤ r.end) × (r.start ≤ r.from) × (r.from ≤ r.end)
 
   module _ (first : ℕ) (left : Bool) where
-    abbrev B : RowTold → Type 0
+    abbrev B : Option Finding → Type 0
     B = Between r.start r.end
 
     text_between : {hi : ℕ} → r.start ≤ hi → Between r.start hi (text_told rows first left p)
     unfolding text_told swallow_told
-    text_between {hi} h = let C : RowTold → Type 0 = Between r.start hi in if_all C (eqb p first) (if_all C left (omega arith, h) (omega arith, h)) tt
+    text_between {hi} h = let C : Option Finding → Type 0 = Between r.start hi in if_all C (eqb p first) (if_all C left (omega arith, h) (omega arith, h)) tt
 
     number_between : {hi : ℕ} → r.start ≤ hi → Between r.start hi (number_told source rows p)
     unfolding number_told
-    number_between {hi} h = let C : RowTold → Type 0 = Between r.start hi in if_all C (ends_otherwise source rows p) (omega arith, h) tt
+    number_between {hi} h = let C : Option Finding → Type 0 = Between r.start hi in if_all C (ends_otherwise source rows p) (omega arith, h) tt
 
     row_between : Whole → B (row_told source rows first left p)
     unfolding row_told error_told name_or_nothing
@@ -162,26 +156,26 @@ module _ (source rows : List ℕ) (p : ℕ) where
         → Between r.start r.start (row_told source rows first left p)
     unfolding row_told name_or_nothing
     pair_between e k h =
-        let C : RowTold → Type 0 = Between r.start r.start in
+        let C : Option Finding → Type 0 = Between r.start r.start in
         rw (e, unnamed k h)
         (if_all C (eqb r.kind kind.Identifier) tt
         (if_all C (eqb r.kind kind.StringLiteral) (text_between (omega arith))
         (if_all C (eqb r.kind kind.Number) (number_between (omega arith)) tt)))
 
-weaken : (lo a b : ℕ) (t : RowTold) → a ≤ b → Between lo a t → Between lo b t
-weaken lo a b Nothing h k = tt
-weaken lo a b (One f) h k = (k.0, omega (arith, k.1))
+weaken : (lo a b : ℕ) (t : Option Finding) → a ≤ b → Between lo a t → Between lo b t
+weaken lo a b None h k = tt
+weaken lo a b (Some f) h k = (k.0, omega (arith, k.1))
 
 -- ---- the finding about lists starts where its row does
 
-abbrev Starts : List ℕ → ListTold → Type 0
-Starts rows Silent = Unit {0}
-Starts rows (At i f) = f.start ≡ (row_at rows i).start
+abbrev Starts : List ℕ → Option ListTold → Type 0
+Starts rows None = Unit {0}
+Starts rows (Some t) = t.finding.start ≡ (row_at rows t.row).start
 
 refused_starts : (source rows : List ℕ) (n p : ℕ) → Starts rows (refused_list source rows n p)
 unfolding refused_list bracket_open wrong_close misplaced_dot mark_waits
 refused_starts source rows n p =
-    let S : ListTold → Type 0 = Starts rows in
+    let S : Option ListTold → Type 0 = Starts rows in
     if_all S (eqb n refusal.bracket_open) (if_all S (within kind.IncompleteString kind.IncompleteComment (last_row rows).error) tt
     (if_all S (ltb (first_from (is_misfit source rows) (count_of rows) 0) (count_of rows)) refl refl))
     (if_all S (eqb n refusal.wrong_close) (if_all S (eqb (depth_at rows p) 0) refl refl)
@@ -196,10 +190,10 @@ list_starts source rows = go (nested_of rows []).answer
     go (Built n) = tt
     go (Refused n p) = refused_starts source rows n p
 
-list_between : (rows : List ℕ) (t : ListTold) → Starts rows t → (p : ℕ) → Between (row_at rows p).start (row_at rows p).start (list_told t p)
-list_between rows Silent h p = tt
-list_between rows (At i f) h p = if_is (Between (row_at rows p).start (row_at rows p).start) (eqb i p)
-    (λ b. let e : f.start ≡ (row_at rows p).start = h ∙ ap (λ (k : ℕ). (row_at rows k).start) (eqb-true i p b) in (omega arith, omega arith))
+list_between : (rows : List ℕ) (t : Option ListTold) → Starts rows t → (p : ℕ) → Between (row_at rows p).start (row_at rows p).start (list_told t p)
+list_between rows None h p = tt
+list_between rows (Some t) h p = if_is (Between (row_at rows p).start (row_at rows p).start) (eqb t.row p)
+    (λ b. let e : t.finding.start ≡ (row_at rows p).start = h ∙ ap (λ (k : ℕ). (row_at rows k).start) (eqb-true t.row p b) in (omega arith, omega arith))
     (λ b. tt)
 
 -- ---- the rows of the mended reading
@@ -271,7 +265,7 @@ module _ (s : List ℕ) where
   abbrev pub tells : ℕ → List Finding
   tells = told_at s rows (list_of s rows) (swallower s rows) (left_over s rows)
 
-  abbrev own : ℕ → RowTold
+  abbrev own : ℕ → Option Finding
   own p = row_told s rows (swallower s rows) (left_over s rows) p
 
   -- what a row tells starts no later than the next row
@@ -313,9 +307,9 @@ module _ (s : List ℕ) where
   unfolding told_of
   rows_sorted = sorted_lower 0 (start_at 0) (told_from tells (count_of rows) 0) (omega arith) (told_sorted (count_of rows) 0 (omega (arith, count_is is)))
 
-  find_sorted : (u : Utf8) → Sorted 0 (told_if u s)
-  find_sorted Good = rows_sorted
-  find_sorted (Bad b) = (omega arith, tt)
+  find_sorted : (u : Option ℕ) → Sorted 0 (told_if u s)
+  find_sorted None = rows_sorted
+  find_sorted (Some b) = (omega arith, tt)
 
   -- findings come in the order of their places' starts
   pub in_order : Sorted 0 (find_of s)

@@ -1,4 +1,5 @@
 -- `places_within`: both places of every finding lie in the text, since the rows of the mended reading do and so does what they point at.
+use Rattle.std.proofs.Common.{None, Option, Some}
 use Prim.Native.Nat.{ℕ, zero, suc, ◌+◌, ◌-◌, ◌≤◌, ◌<◌}
 use mathlib.Core.Path.{◌≡◌, ap, ◌∙◌}
 use mathlib.Core.Bool.{Bool, true, ◌&&◌}
@@ -9,8 +10,6 @@ use native.Mathlib.Omega.{arith}
 use borrow.Author.Tests.{eqb-true, leb-false}
 use Rattle.laws.proofs.Choice.{by_bool, if_all, and_true}
 use Rattle.chars.specs.Utf8.{Sequence, read, broken, short, Front, char, bad, cut, none, front, onward, sequences, verdict, first_bad}
-use Rattle.chars.specs.declared.Utf8.{Utf8}
-use Rattle.chars.specs.declared.Utf8.TheVariants.{Good, Bad}
 use Rattle.chars.proofs.Spells.{Spells, spells}
 use Rattle.items.specs.Kinds as kind
 use Rattle.items.specs.Items.{Item}
@@ -64,9 +63,9 @@ module _ (n : ℕ) where
   of_char (broken f t) h = tt
   of_char (short f) h = tt
 
-  abbrev VerdictIn : Utf8 → Type 0
-  VerdictIn Good = Unit {0}
-  VerdictIn (Bad b) = b ≤ n
+  abbrev VerdictIn : Option ℕ → Type 0
+  VerdictIn None = Unit {0}
+  VerdictIn (Some b) = b ≤ n
 
   verdict_in : (l : List Sequence) → Every SequenceIn l → VerdictIn (verdict l)
   verdict_in [] h = tt
@@ -177,9 +176,9 @@ module _ (s : List ℕ) where
     quote = λ p h _. quote p h;
   }
 
-  if_lie : (u : Utf8) → VerdictIn (length s) u → Every (Lies (length s)) (told_if u s)
-  if_lie Good h = places I s (rows s) from_rows
-  if_lie (Bad b) h = (((omega arith, h), (omega arith, omega arith)), tt)
+  if_lie : (u : Option ℕ) → VerdictIn (length s) u → Every (Lies (length s)) (told_if u s)
+  if_lie None h = places I s (rows s) from_rows
+  if_lie (Some b) h = (((omega arith, h), (omega arith, omega arith)), tt)
 
   bad_in : VerdictIn (length s) (first_bad s)
   unfolding first_bad

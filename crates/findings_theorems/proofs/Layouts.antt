@@ -1,4 +1,5 @@
 -- What an extent means has kinds and details of the layout, and so has every item of a text.
+use Rattle.std.proofs.Common.{Ok, Err, Result}
 use Prim.Native.Nat.{ℕ, suc, ◌+◌, ◌-◌, ◌≤◌, ◌<◌}
 use mathlib.Core.Path.{◌≡◌, refl}
 use mathlib.Core.Bool.{Bool, true, ◌&&◌, ◌||◌}
@@ -14,13 +15,12 @@ use Rattle.chars.specs.Utf8.{Front, front}
 use Rattle.chars.specs.Utf8 as utf
 use Rattle.chars.proofs.Spells.{Spells, spells}
 use Rattle.digits.specs.Hex.{hex_value}
-use Rattle.numbers.specs.Grammar.{parse_number}
-use Rattle.numbers.specs.declared.Parsed.{Parsed}
-use Rattle.numbers.specs.declared.Parsed.TheVariants as parsed
+use Rattle.numbers.specs.Grammar.{parse_number, Parsed}
+use Rattle.numbers.specs.declared.ParseError.TheVariants as parsed
 use Rattle.items.specs.declared.Outcome.{Outcome}
 use Rattle.items.specs.declared.Outcome.TheVariants.{Token, Str, HereStr, Word, Run, Lined, Keyword, Character, Error, ErrorAt}
-use Rattle.items.specs.declared.CharValue.{CharValue}
-use Rattle.items.specs.declared.CharValue.TheVariants.{Scalar, Wrong, WrongAt}
+use Rattle.items.specs.declared.CharError.{CharError}
+use Rattle.items.specs.declared.CharError.TheVariants.{Wrong, WrongAt}
 use Rattle.items.specs.Kinds as kind
 use Rattle.items.specs.Readers.{first_is, last_is, scalar_of, read_item, SoFar}
 use Rattle.items.specs.Meaning.{Row, Meaning, lookup, word_kind, word_means, run_means, lower, char_names, unnamed, nameless, only_one, later, hex_named, spelled_out}
@@ -47,10 +47,10 @@ error_laid n d h = ((λ l. absurd (omega arith)), (λ e. omega arith))
 
 -- ---- characters
 
-char_later : (n : ℕ) (v : CharValue) → SortValue v → SortValue (later n v)
-char_later n (Scalar c) h = h
-char_later n (Wrong e d) h = h
-char_later n (WrongAt e d p) h = h
+char_later : (n : ℕ) (v : Result ℕ CharError) → SortValue v → SortValue (later n v)
+char_later n (Ok c) h = h
+char_later n (Err (Wrong e d)) h = h
+char_later n (Err (WrongAt e d p)) h = h
 
 char_nameless : (report : Bool) (t : List ℕ) → SortValue (nameless report t)
 unfolding nameless
@@ -90,11 +90,11 @@ char_of report t = if_all SortValue (eqb (lookup char_names (map lower t) unname
 
 -- ---- meanings
 
-laid_character : (v : CharValue) → SortValue v → Every LaidMeaning (character_means v)
+laid_character : (v : Result ℕ CharError) → SortValue v → Every LaidMeaning (character_means v)
 unfolding has_detail
-laid_character (Scalar c) h = (((λ l. (omega arith, h)), (λ e. omega arith)), tt)
-laid_character (Wrong e d) h = (error_laid e d h, tt)
-laid_character (WrongAt e d p) h = (error_laid e d h, tt)
+laid_character (Ok c) h = (((λ l. (omega arith, h)), (λ e. omega arith)), tt)
+laid_character (Err (Wrong e d)) h = (error_laid e d h, tt)
+laid_character (Err (WrongAt e d p)) h = (error_laid e d h, tt)
 
 laid_word : (s e : ℕ) (raw : List ℕ) → Every LaidMeaning (word_means s e raw)
 unfolding word_means
@@ -107,9 +107,9 @@ laid_word s e raw =
 
 laid_run : (p : Parsed) (s e : ℕ) (raw : List ℕ) → Every LaidMeaning (run_means p s e raw)
 unfolding run_means
-laid_run (parsed.Is p) s e raw = (plain_laid kind.Number (omega arith), tt)
-laid_run parsed.NoNumber s e raw = laid_word s e raw
-laid_run parsed.ZeroDenominator s e raw = (error_laid kind.ZeroDenominator 0 (omega arith), tt)
+laid_run (Ok p) s e raw = (plain_laid kind.Number (omega arith), tt)
+laid_run (Err parsed.NoNumber) s e raw = laid_word s e raw
+laid_run (Err parsed.ZeroDenominator) s e raw = (error_laid kind.ZeroDenominator 0 (omega arith), tt)
 
 laid_means : (report : Bool) (o : Outcome) (s e : ℕ) (raw : List ℕ) → Sort o → Every LaidMeaning (meaning_of report o s e raw)
 laid_means report (Token k d) s e raw h = (((λ l. h), (λ e. omega (arith, h.0))), tt)

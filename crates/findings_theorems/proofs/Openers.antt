@@ -1,5 +1,6 @@
 -- What an error starts with: a byte of ASCII, and a comment that is not closed with two. Only a word may start past ASCII (`first_byte`), and no
 -- word is an error.
+use Rattle.std.proofs.Common.{Ok, Err, Result}
 use Prim.Native.Nat.{ℕ, ◌+◌, ◌≤◌, ◌<◌}
 use mathlib.Core.Path.{◌≡◌}
 use mathlib.Core.Bool.{true, ◌&&◌}
@@ -11,14 +12,13 @@ use native.Mathlib.Omega.{arith}
 use borrow.Author.Tests.{ltb-true}
 use Rattle.laws.specs.Quoted.{code}
 use Rattle.laws.proofs.Choice.{if_all}
-use Rattle.numbers.specs.Grammar.{parse_number}
-use Rattle.numbers.specs.declared.Parsed.{Parsed}
-use Rattle.numbers.specs.declared.Parsed.TheVariants as parsed
+use Rattle.numbers.specs.Grammar.{parse_number, Parsed}
+use Rattle.numbers.specs.declared.ParseError.TheVariants as parsed
 use Rattle.items.specs.Kinds as kind
 use Rattle.items.specs.declared.Outcome.{Outcome}
 use Rattle.items.specs.declared.Outcome.TheVariants.{Token, Str, HereStr, Word, Run, Lined, Keyword, Character, Error, ErrorAt}
-use Rattle.items.specs.declared.CharValue.{CharValue}
-use Rattle.items.specs.declared.CharValue.TheVariants.{Scalar, Wrong, WrongAt}
+use Rattle.items.specs.declared.CharError.{CharError}
+use Rattle.items.specs.declared.CharError.TheVariants.{Wrong, WrongAt}
 use Rattle.items.specs.Readers.{Read, first_is, read_item}
 use Rattle.items.specs.Meaning.{Meaning, word_kind, word_means, run_means, character_of, character_means, char_inside, meaning_of}
 use Rattle.items.specs.Items.{Place, Item, items_of, range_after, standing, extent_items}
@@ -56,14 +56,14 @@ module _ (s e : ℕ) (raw : List ℕ) where
   module _ (low : get_or raw 0 0 < 0x80) where
     of_run_lem : (p : Parsed) → Means (run_means p s e raw)
     unfolding run_means
-    of_run_lem (parsed.Is p) = (fine _ (omega arith), tt)
-    of_run_lem parsed.NoNumber = of_word
-    of_run_lem parsed.ZeroDenominator = (((λ _. low), (λ l. absurd (omega arith))), tt)
+    of_run_lem (Ok p) = (fine _ (omega arith), tt)
+    of_run_lem (Err parsed.NoNumber) = of_word
+    of_run_lem (Err parsed.ZeroDenominator) = (((λ _. low), (λ l. absurd (omega arith))), tt)
 
-    of_character : (v : CharValue) → Second raw → Means (character_means v)
-    of_character (Scalar c) h = (fine _ (omega arith), tt)
-    of_character (Wrong n d) h = (((λ _. low), (λ _. h)), tt)
-    of_character (WrongAt n d p) h = (((λ _. low), (λ _. h)), tt)
+    of_character : (v : Result ℕ CharError) → Second raw → Means (character_means v)
+    of_character (Ok c) h = (fine _ (omega arith), tt)
+    of_character (Err (Wrong n d)) h = (((λ _. low), (λ _. h)), tt)
+    of_character (Err (WrongAt n d p)) h = (((λ _. low), (λ _. h)), tt)
 
     of_error : (n : ℕ) → (n ≡ kind.IncompleteComment → Second raw) → Opened raw (kind.first_error + n)
     of_error n h = ((λ _. low), (λ l. h (omega arith)))

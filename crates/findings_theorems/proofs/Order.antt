@@ -1,6 +1,7 @@
 -- The rows of a plan come in the order of their extents: each starts where the one before it ends, or later; but the two items of `+foo`
 -- share one extent.
-use Prim.Native.Nat.{ℕ, zero, suc, ◌+◌, ◌≤◌}
+use Rattle.std.proofs.Common.{None, Option, Some}
+use Prim.Native.Nat.{ℕ, zero, suc, ◌≤◌}
 use mathlib.Core.Path.{◌≡◌, refl, sym, ap, ◌∙◌, subst}
 use mathlib.Core.Bool.{Bool, false, ◌&&◌}
 use mathlib.Core.List.{List, [], ◌∷◌}
@@ -8,18 +9,17 @@ use mathlib.Core.Logic.{◌⊎◌, inl, inr, ⊎_elim}
 use lib.ListN.{length, drop}
 use lib.Dec.{eqb, ltb}
 use native.Mathlib.Omega.{arith}
-use Rattle.std.specs.Prelude.{if◌then◌else◌}
+use Rattle.std.specs.Prelude.{None, Option, Some, Ok, Err, Result}
 use Rattle.laws.specs.Quoted.{code}
 use Rattle.laws.proofs.Choice.{by_bool, and_no, if_all, impossible}
 use Rattle.chars.specs.Utf8.{chars}
-use Rattle.numbers.specs.Grammar.{parse_number}
-use Rattle.numbers.specs.declared.Parsed.{Parsed}
-use Rattle.numbers.specs.declared.Parsed.TheVariants as parsed
+use Rattle.numbers.specs.Grammar.{parse_number, Parsed}
+use Rattle.numbers.specs.declared.ParseError.TheVariants as parsed
 use Rattle.items.specs.Kinds as kind
 use Rattle.items.specs.declared.Outcome.{Outcome}
 use Rattle.items.specs.declared.Outcome.TheVariants.{Token, Str, HereStr, Word, Run, Lined, Keyword, Character, Error, ErrorAt}
-use Rattle.items.specs.declared.CharValue.{CharValue}
-use Rattle.items.specs.declared.CharValue.TheVariants.{Scalar, Wrong, WrongAt}
+use Rattle.items.specs.declared.CharError.{CharError}
+use Rattle.items.specs.declared.CharError.TheVariants.{Wrong, WrongAt}
 use Rattle.items.specs.Readers.{Read, SoFar, first_is, read_item}
 use Rattle.items.specs.Meaning.{Meaning, word_kind, word_means, run_means, character_of, character_means, char_inside, meaning_of}
 use Rattle.items.specs.Items.{Place, Item, items_of, extent_items, range_after, standing}
@@ -29,13 +29,10 @@ use Rattle.meaning.specs.Places.{place_in}
 use Rattle.lexer.specs.Reading.{Turn, gives, ends, turn_of, turn, start_from, next_from, next_at, size_of}
 use Rattle.lexer.specs.declared.Spot.{Spot}
 use Rattle.lexer.specs.declared.FirstChar.{FirstChar}
-use Rattle.lexer.specs.declared.FirstChar.TheVariants.{At, Nothing}
 use Rattle.lexer.proofs.Cases.{past, halfway, both, by_turn, turn_here}
 use Rattle.lexer.proofs.Turns.{Started, started, turn_started, turn_nothing}
 use Rattle.lexer.proofs.Moves.{Moved, turn_moved, extent_ends}
 use Rattle.lexer.proofs.Nexts.{next_at_gives}
-use Rattle.findings_rows.specs.declared.Closing.{Closing}
-use Rattle.findings_rows.specs.declared.Closing.TheVariants.{Behind, Nowhere}
 use Rattle.findings_rows.specs.Mended.{slips, quote_of, closing_of, spot_at, ended_at, unclosed_at, slip_turn, mend_turn, mended_at, mended_from, mended_of, opening_spot}
 use Rattle.findings_rows.proofs.Mends.{mend_slip, mend_fine}
 use Rattle.findings_rows.proofs.Lays.{from_gives, from_ends}
@@ -61,14 +58,14 @@ pair_word s e raw =
 
 pair_run : (p : Parsed) (s e : ℕ) (raw : List ℕ) → Pair (kinds_of (run_means p s e raw))
 unfolding run_means
-pair_run (parsed.Is p) s e raw = tt
-pair_run parsed.NoNumber s e raw = pair_word s e raw
-pair_run parsed.ZeroDenominator s e raw = tt
+pair_run (Ok p) s e raw = tt
+pair_run (Err parsed.NoNumber) s e raw = pair_word s e raw
+pair_run (Err parsed.ZeroDenominator) s e raw = tt
 
-pair_character : (v : CharValue) → Pair (kinds_of (character_means v))
-pair_character (Scalar c) = tt
-pair_character (Wrong e d) = tt
-pair_character (WrongAt e d p) = tt
+pair_character : (v : Result ℕ CharError) → Pair (kinds_of (character_means v))
+pair_character (Ok c) = tt
+pair_character (Err (Wrong e d)) = tt
+pair_character (Err (WrongAt e d p)) = tt
 
 pair_means : (report : Bool) (o : Outcome) (s e : ℕ) (raw : List ℕ) → Pair (kinds_of (meaning_of report o s e raw))
 pair_means report (Token k d) s e raw = tt
@@ -153,11 +150,11 @@ module _ (s : List ℕ) (p : Spot) (c a n : ℕ) (S : Started s p.at (chars (dro
 pub turn_went : (s : List ℕ) (p : Spot) (i : Item) (q : Spot) → turn s p ≡ gives i q → Went s p i q
 turn_went s p i q e = go (start_from p.at (chars (drop p.at s))) refl
   where
-    go : (x : FirstChar) → start_from p.at (chars (drop p.at s)) ≡ x → Went s p i q
-    go (At c a n) f =
-        let S : Started s p.at (chars (drop p.at s)) c a n = started s (chars (drop p.at s)) p.at refl c a n f in
-        went s p c a n S i q (sym (turn_started s p c a n S) ∙ e)
-    go Nothing f = let z : gives i q ≡ ends = sym e ∙ turn_nothing s p f in impossible cc
+    go : (x : Option FirstChar) → start_from p.at (chars (drop p.at s)) ≡ x → Went s p i q
+    go (Some x) f =
+        let S : Started s p.at (chars (drop p.at s)) x.code x.at x.past = started s (chars (drop p.at s)) p.at refl x.code x.at x.past f in
+        went s p x.code x.at x.past S i q (sym (turn_started s p x.code x.at x.past S) ∙ e)
+    go None f = let z : gives i q ≡ ends = sym e ∙ turn_nothing s p f in impossible cc
 
 -- ---- the next item, comments passed over
 
@@ -194,9 +191,9 @@ module _ (s : List ℕ) where
   abbrev Ahead : Spot → Item → Type 0
   Ahead p i = p.at ≤ i.start
 
-  slip_ahead : (p : Spot) (i : Item) (q : Spot) (c : Closing) → p.at ≤ i.start → Given (Ahead p) (slip_turn s i q c)
-  slip_ahead p i q (Behind e) h = h
-  slip_ahead p i q Nowhere h = h
+  slip_ahead : (p : Spot) (i : Item) (q : Spot) (c : Option ℕ) → p.at ≤ i.start → Given (Ahead p) (slip_turn s i q c)
+  slip_ahead p i q (Some e) h = h
+  slip_ahead p i q None h = h
 
   mend_ahead : (p : Spot) (t : Turn) → next_at s p ≡ t → Given (Ahead p) (mend_turn s t)
   mend_ahead p ends e = tt
@@ -235,9 +232,9 @@ module _ (s : List ℕ) where
       subst (Given (Next i)) (sym (ap (mend_turn s) (next_at_gives s q u j e kept) ∙ mend_fine s j u fine)) (inr (h, k, g))
 
   -- a slip's extent ends where reading goes on
-  slip_end : (x : Item) (t : Spot) (c : Closing) (i : Item) (q : Spot) → slip_turn s x t c ≡ gives i q → q.at ≡ i.end
-  slip_end x t (Behind e) i q f = let o : ended_at e x ≡ i = cc in let u : spot_at t e ≡ q = cc in ap (λ (y : Spot). y.at) (sym u) ∙ ap (λ (y : Item). y.end) o
-  slip_end x t Nowhere i q f =
+  slip_end : (x : Item) (t : Spot) (c : Option ℕ) (i : Item) (q : Spot) → slip_turn s x t c ≡ gives i q → q.at ≡ i.end
+  slip_end x t (Some e) i q f = let o : ended_at e x ≡ i = cc in let u : spot_at t e ≡ q = cc in ap (λ (y : Spot). y.at) (sym u) ∙ ap (λ (y : Item). y.end) o
+  slip_end x t None i q f =
       let o : unclosed_at (quote_of s x.start) x.start (length s) ≡ i = cc in
       let u : spot_at t (length s) ≡ q = cc in
       ap (λ (y : Spot). y.at) (sym u) ∙ ap (λ (y : Item). y.end) o
@@ -252,7 +249,7 @@ module _ (s : List ℕ) where
       let k : Came p x t = came p x t e in
       fine (subst (λ (y : Spot). Went s k.from i y) u (subst (λ (y : Item). Went s k.from y t) o (turn_went s k.from x t k.gave))))
     where
-      slip : (c : Closing) → slip_turn s x t c ≡ gives i q → Given (Next i) (mended_at s q)
+      slip : (c : Option ℕ) → slip_turn s x t c ≡ gives i q → Given (Next i) (mended_at s q)
       slip c f = behind_next i q (slip_end x t c i q f)
 
       fine : {f : Spot} → Went s f i q → Given (Next i) (mended_at s q)

@@ -1,5 +1,6 @@
 -- Every item of the mended reading has its extent in the text, points at a place from its start on, up to its end, and that place lies in the
 -- text.
+use Rattle.std.proofs.Common.{None, Option, Some}
 use Prim.Native.Nat.{ℕ, zero, suc, ◌+◌, ◌≤◌, ◌<◌}
 use mathlib.Core.Path.{◌≡◌, refl, sym, ◌∙◌, subst}
 use mathlib.Core.Bool.{true}
@@ -18,8 +19,6 @@ use Rattle.lexer.specs.Reading.{Turn, gives, ends, next_at, size_of}
 use Rattle.lexer.specs.declared.Spot.{Spot}
 use Rattle.lexer.proofs.Moves.{Moved}
 use Rattle.lexer.proofs.Nexts.{next_moved}
-use Rattle.findings_rows.specs.declared.Closing.{Closing}
-use Rattle.findings_rows.specs.declared.Closing.TheVariants.{Behind, Nowhere}
 use Rattle.findings_rows.specs.Mended.{slips, quote_of, closing_of, spot_at, ended_at, unclosed_at, slip_turn, mend_turn, mended_at, mended_from, mended_of, opening_spot}
 use Rattle.findings_rows.proofs.Mends.{mend_slip, mend_fine, closing_past}
 use Rattle.findings_rows.proofs.Lays.{from_gives, from_ends}
@@ -76,8 +75,8 @@ module _ (s : List ℕ) where
       ends_there : t.at ≡ x.end
       ends_there = ⊎_elim (λ a. a) (λ r. no_yes (sym (fine_unslipped s x (omega (arith, r.1.1.3))) ∙ b)) went.after
 
-      good_slip : (c : Closing) → closing_of s x.kind x.start t.at ≡ c → (i : Item) (q : Spot) → slip_turn s x t c ≡ gives i q → Good i q
-      good_slip (Behind y) f i q h =
+      good_slip : (c : Option ℕ) → closing_of s x.kind x.start t.at ≡ c → (i : Item) (q : Spot) → slip_turn s x t c ≡ gives i q → Good i q
+      good_slip (Some y) f i q h =
           let r = closing_past s x.kind x.start t.at y m.inside f in
           good_same (ended_at y x) i (spot_at t y) q h (
             record {
@@ -89,7 +88,7 @@ module _ (s : List ℕ) where
             },
             after_report,
           )
-      good_slip Nowhere f i q h =
+      good_slip None f i q h =
           good_same (unclosed_at (quote_of s x.start) x.start (length s)) i (spot_at t (length s)) q h (
             record {
               some = omega (arith, m.whole.some, m.whole.ends);

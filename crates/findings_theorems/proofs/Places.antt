@@ -1,6 +1,7 @@
 -- What the places of findings are: extents of rows, what an error points at, the opening characters of what is not closed, or a character. So a
 -- law that holds from the start to the end of each of these holds of both places of every finding. `R` is the law: what it says does not
 -- matter here.
+use Rattle.std.proofs.Common.{None, Option, Some}
 use Prim.Native.Nat.{ℕ, zero, suc, ◌+◌, ◌-◌, ◌≤◌, ◌<◌}
 use mathlib.Core.Path.{◌≡◌, sym, ap, subst, ◌∙◌}
 use mathlib.Core.Bool.{Bool, true, false, ◌&&◌}
@@ -15,9 +16,7 @@ use Rattle.refusal.specs.Refusals as refusal
 use Rattle.items.specs.Kinds as kind
 use Rattle.items.proofs.Every.{Every, every_append}
 use Rattle.nested.specs.Items.{count_of}
-use Rattle.nested.specs.Lent.{nested_of}
-use Rattle.nested.specs.declared.Nested.{Nested}
-use Rattle.nested.specs.declared.Nested.TheVariants.{Built, Refused}
+use Rattle.nested.specs.Lent.{nested_of, Nested, Built, Refused}
 use Rattle.findings.specs.Finding.{error, single, both, listed}
 use Rattle.findings.specs.Rows.{byte_at, part, no_row, row_at, last_row, depth_at, first_from, bytes_on}
 use Rattle.findings.specs.Lists.{wrong_close, misplaced_dot, mark_waits, bracket_open, is_misfit, refused_list, nested_told, list_of}
@@ -25,10 +24,7 @@ use Rattle.findings.specs.Slips.{is_name, odd_code, first_odd, odd_in, like_numb
 use Rattle.findings.specs.Told.{ends_in_text, left_over, error_end, error_told, swallow_told, text_told, number_told, name_or_nothing, row_told, list_told, told_at, told_from, told_of}
 use Rattle.findings.specs.declared.Finding.{Finding}
 use Rattle.findings.specs.declared.Row.{Row}
-use Rattle.findings.specs.declared.RowTold.{RowTold}
-use Rattle.findings.specs.declared.RowTold.TheVariants.{Nothing, One}
 use Rattle.findings.specs.declared.ListTold.{ListTold}
-use Rattle.findings.specs.declared.ListTold.TheVariants.{Silent, At}
 use Rattle.findings_theorems.proofs.Clean.{past_row}
 use Rattle.findings_theorems.proofs.Exactly.{first_passes}
 
@@ -59,27 +55,27 @@ module _ (R : ℕ → ℕ → Type 0) where
     pub nest : (p : ℕ) → p < count_of rows → (row_at rows p).error ≡ kind.IncompleteComment → R (row_at rows p).from (bytes_on 2 (row_at rows p).from)
     pub quote : (p : ℕ) → p < count_of rows → byte_at source (row_at rows p).start ≡ code "\"" → R (row_at rows p).start (bytes_on 1 (row_at rows p).start)
 
-  abbrev OfTold : RowTold → Type 0
-  OfTold Nothing = Unit {0}
-  OfTold (One f) = BothPlaces f
+  abbrev OfTold : Option Finding → Type 0
+  OfTold None = Unit {0}
+  OfTold (Some f) = BothPlaces f
 
-  abbrev OfList : ListTold → Type 0
-  OfList Silent = Unit {0}
-  OfList (At i f) = BothPlaces f
+  abbrev OfList : Option ListTold → Type 0
+  OfList None = Unit {0}
+  OfList (Some t) = BothPlaces t.finding
 
-  of_two : (t u : RowTold) → OfTold t → OfTold u → Every BothPlaces (listed t ++ listed u)
-  of_two Nothing Nothing h k = tt
-  of_two Nothing (One g) h k = (k, tt)
-  of_two (One f) Nothing h k = (h, tt)
-  of_two (One f) (One g) h k = (h, (k, tt))
+  of_two : (t u : Option Finding) → OfTold t → OfTold u → Every BothPlaces (listed t ++ listed u)
+  of_two None None h k = tt
+  of_two None (Some g) h k = (k, tt)
+  of_two (Some f) None h k = (h, tt)
+  of_two (Some f) (Some g) h k = (h, (k, tt))
 
-  of_list : (t : ListTold) (p : ℕ) → OfList t → OfTold (list_told t p)
-  of_list Silent p h = tt
-  of_list (At i f) p h = if_all OfTold (eqb i p) h tt
+  of_list : (t : Option ListTold) (p : ℕ) → OfList t → OfTold (list_told t p)
+  of_list None p h = tt
+  of_list (Some t) p h = if_all OfTold (eqb t.row p) h tt
 
-  of_else : (t u : RowTold) → OfTold t → OfTold u → OfTold (or_else t u)
-  of_else Nothing u h k = k
-  of_else (One f) u h k = h
+  of_else : (t u : Option Finding) → OfTold t → OfTold u → OfTold (or_else t u)
+  of_else None u h k = k
+  of_else (Some f) u h k = h
 
   module _ (source rows : List ℕ) (g : FromRows source rows) where
     of_odd : (l : List Sequence) → Every OfChar l → OfTold (first_odd l)

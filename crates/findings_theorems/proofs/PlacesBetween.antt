@@ -1,5 +1,6 @@
 -- `places_between`: both places of every finding of any source start and end between two characters. Of a text that is not UTF-8 that is the end
 -- of its good part; of one over the limit the start.
+use Rattle.std.proofs.Common.{None, Option, Some}
 use Prim.Native.Nat.{ℕ, ◌+◌, ◌-◌, ◌≤◌, ◌<◌}
 use mathlib.Core.Path.{◌≡◌, refl, sym, subst, ◌∙◌}
 use mathlib.Core.List.{List}
@@ -10,8 +11,6 @@ use native.Mathlib.Numerals.{add-one}
 use Rattle.laws.specs.Quoted.{code}
 use Rattle.laws.proofs.Choice.{if_all}
 use Rattle.chars.specs.Utf8.{sequences, first_bad}
-use Rattle.chars.specs.declared.Utf8.{Utf8}
-use Rattle.chars.specs.declared.Utf8.TheVariants.{Good, Bad}
 use Rattle.items.specs.Kinds as kind
 use Rattle.items.specs.Whole.{limit}
 use Rattle.items.proofs.Every.{Every}
@@ -40,7 +39,7 @@ module _ (s : List ℕ) where
   on_between : (k a : ℕ) → B a → B (a + k) → R a (bytes_on k a)
   on_between k a h g = (h, if_all B (leb (a + k) limit) g h)
 
-  module _ (good : first_bad s ≡ Good) where
+  module _ (good : first_bad s ≡ None) where
     module _ (p : ℕ) (there : p < count_of (rows s)) where
       abbrev r : Row
       r = row_at (rows s) p
@@ -99,9 +98,9 @@ module _ (s : List ℕ) where
       quote = quote;
     }
 
-  if_between : (u : Utf8) → first_bad s ≡ u → Every (BothPlaces R) (told_if u s)
-  if_between Good e = places R s (rows s) (from_rows e)
-  if_between (Bad b) e = let m : B b = bad_between s b e in (((m, m), nowhere), tt)
+  if_between : (u : Option ℕ) → first_bad s ≡ u → Every (BothPlaces R) (told_if u s)
+  if_between None e = places R s (rows s) (from_rows e)
+  if_between (Some b) e = let m : B b = bad_between s b e in (((m, m), nowhere), tt)
 
   pub places_between : Every (BothPlaces R) (find_of s)
   unfolding find_of

@@ -13,8 +13,7 @@ use Rattle.items.proofs.Every.{Every}
 use Rattle.items.proofs.Fit.{records-length}
 use Rattle.nested.specs.Items.{count_of, class_of, class_at, items_of, items_from}
 use Rattle.nested.specs.Reader.{Result, Nodes, No, run, start}
-use Rattle.nested.specs.Lent.{outcome, spliced, words_of, given, nested_of}
-use Rattle.nested.specs.declared.Nested.TheVariants.{Built, Refused}
+use Rattle.nested.specs.Lent.{outcome, spliced, words_of, given, nested_of, Built, Refused}
 use Rattle.findings_rows.specs.Rows.{rows_from}
 use Rattle.findings_theorems.proofs.Unmended.{Fine}
 use Rattle.findings_theorems.proofs.Words as words

@@ -1,5 +1,7 @@
 -- Every item's kind and detail are the layout's, so that nested lists never meet one that is alien: each token that the machine gives has them, and
 -- then it holds of what an extent means.
+use Rattle.std.proofs.Common.{Ok, Err, Result}
+use Rattle.digits.specs.Hex.{Hex}
 use Prim.Native.Nat.{ℕ, ◌≤◌, ◌<◌}
 use mathlib.Core.Path.{◌≡◌, refl}
 use mathlib.Core.Bool.{Bool, true}
@@ -11,14 +13,12 @@ use Rattle.laws.specs.Quoted.{code, within}
 use Rattle.laws.specs.Texts.{begins, same}
 use Rattle.laws.proofs.Choice.{by_bool, if_all, if_is}
 use Rattle.chars.specs.Encode.{is_scalar, spelled}
-use Rattle.digits.specs.declared.Hex.{Hex}
-use Rattle.digits.specs.declared.Hex.TheVariants as hex
 use Rattle.items.specs.declared.Outcome.{Outcome}
 use Rattle.items.specs.declared.Outcome.TheVariants.{Token, Str, HereStr, Word, Run, Lined, Keyword, Character, Error, ErrorAt}
 use Rattle.items.specs.declared.HashKind.{HashKind}
 use Rattle.items.specs.declared.HashKind.TheVariants.{Decided, Bracket, Undecided}
-use Rattle.items.specs.declared.CharValue.{CharValue}
-use Rattle.items.specs.declared.CharValue.TheVariants.{Scalar, Wrong, WrongAt}
+use Rattle.items.specs.declared.CharError.{CharError}
+use Rattle.items.specs.declared.CharError.TheVariants.{Wrong, WrongAt}
 use Rattle.items.specs.Kinds as kind
 use Rattle.items.specs.Classes.{First, starts_run, first_of}
 use Rattle.items.specs.Machine.{on_first}
@@ -58,15 +58,15 @@ abbrev SortKind : HashKind → Type 0
 SortKind = KnownKind Sort (Sorted kind.OpenParen)
 
 -- a character, or an error's number
-abbrev pub SortValue : CharValue → Type 0
-SortValue (Scalar c) = is_scalar c ≡ true
-SortValue (Wrong e d) = 0 < e
-SortValue (WrongAt e d p) = 0 < e
+abbrev pub SortValue : Result ℕ CharError → Type 0
+SortValue (Ok c) = is_scalar c ≡ true
+SortValue (Err (Wrong e d)) = 0 < e
+SortValue (Err (WrongAt e d p)) = 0 < e
 
 pub value_sort : (h : Hex) → SortValue (scalar_of h)
 unfolding scalar_of
-value_sort (hex.Value v) = if_is SortValue (is_scalar v) (λ b. b) (λ b. omega arith)
-value_sort (hex.Wrong d p) = omega arith
+value_sort (Ok v) = if_is SortValue (is_scalar v) (λ b. b) (λ b. omega arith)
+value_sort (Err w) = omega arith
 
 plain_kind_lem : (k : ℕ) → k ≤ kind.Dot → Sorted k 0
 plain_kind_lem k h = (h, zero_detail k)

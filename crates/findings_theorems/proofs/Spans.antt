@@ -1,5 +1,6 @@
 -- Where an error of report mode points to: up to a place in the text. What is not closed is pointed at from its opening characters on, and has
 -- them in the text.
+use Rattle.std.proofs.Common.{Ok, Err, Result}
 use Prim.Native.Nat.{ℕ, ◌+◌, ◌≤◌, ◌<◌}
 use mathlib.Core.Path.{◌≡◌, refl, sym, subst}
 use mathlib.Core.Bool.{Bool, true, false, ◌&&◌}
@@ -14,15 +15,14 @@ use Rattle.laws.proofs.Choice.{by_bool, and_true, no_yes, if_all}
 use Rattle.chars.specs.Utf8.{chars}
 use Rattle.chars.specs.Encode.{width}
 use Rattle.chars.specs.Blank.{is_blank}
-use Rattle.numbers.specs.Grammar.{parse_number}
-use Rattle.numbers.specs.declared.Parsed.{Parsed}
-use Rattle.numbers.specs.declared.Parsed.TheVariants as parsed
+use Rattle.numbers.specs.Grammar.{parse_number, Parsed}
+use Rattle.numbers.specs.declared.ParseError.TheVariants as parsed
 use Rattle.items.specs.Kinds as kind
 use Rattle.items.specs.Points.{PointsAt, escape_errors}
 use Rattle.items.specs.declared.Outcome.{Outcome}
 use Rattle.items.specs.declared.Outcome.TheVariants.{Token, Str, HereStr, Word, Run, Lined, Keyword, Character, Error, ErrorAt}
-use Rattle.items.specs.declared.CharValue.{CharValue}
-use Rattle.items.specs.declared.CharValue.TheVariants.{Scalar, Wrong, WrongAt}
+use Rattle.items.specs.declared.CharError.{CharError}
+use Rattle.items.specs.declared.CharError.TheVariants.{Wrong, WrongAt}
 use Rattle.items.specs.Readers.{Read, SoFar, first_is, read_item}
 use Rattle.items.specs.Meaning.{Meaning, word_kind, word_means, run_means, character_of, character_means, char_inside, meaning_of}
 use Rattle.items.specs.Items.{Place, Item, range, unset, is_set, place_of, character_sets, items_of, extent_items, range_after, byte_count}
@@ -113,9 +113,9 @@ module _ (n : ℕ) where
 
     run_sets : (p : Parsed) (raw : List ℕ) → Every (Sets unset) (run_means p s e raw)
     unfolding run_means
-    run_sets (parsed.Is p) raw = (unset_fine _ (omega arith), tt)
-    run_sets parsed.NoNumber raw = word_sets raw
-    run_sets parsed.ZeroDenominator raw = (((λ x. no_yes x), (λ q. absurd (omega arith))), tt)
+    run_sets (Ok p) raw = (unset_fine _ (omega arith), tt)
+    run_sets (Err parsed.NoNumber) raw = word_sets raw
+    run_sets (Err parsed.ZeroDenominator) raw = (((λ x. no_yes x), (λ q. absurd (omega arith))), tt)
 
   module _ (s : ℕ) (i : SoFar) (some : s < i.at) (ends : i.at ≤ n) (long : i.at ≡ s + length i.bytes) where
     abbrev S : Place → List Meaning → Type 0
@@ -124,12 +124,12 @@ module _ (n : ℕ) where
     fine : (k : ℕ) → k < kind.first_error → KindSets s i.at some ends unset k
     fine = unset_fine s i.at some ends
 
-    character_sets_lem : (v : CharValue) → 1 < length i.bytes → Named (length (char_inside i.bytes)) v → Fails (char_inside i.bytes) v
+    character_sets_lem : (v : Result ℕ CharError) → 1 < length i.bytes → Named (length (char_inside i.bytes)) v → Fails (char_inside i.bytes) v
         → S (character_sets true v unset s i) (character_means v)
-    character_sets_lem (Scalar c) two h f = (fine _ (omega arith), tt)
-    character_sets_lem (Wrong e d) two h f =
+    character_sets_lem (Ok c) two h f = (fine _ (omega arith), tt)
+    character_sets_lem (Err (Wrong e d)) two h f =
         (((λ x. (omega arith, ends, (λ q. refl), (λ q. omega arith))), (λ q. omega arith)), tt)
-    character_sets_lem (WrongAt e d p) two h f =
+    character_sets_lem (Err (WrongAt e d p)) two h f =
         let w = past_within d (s + 2 + p) (drop p (char_inside i.bytes)) in
         let big : kind.InvalidHexEscapeLiteral ≤ e = large f in (
           (
@@ -144,7 +144,7 @@ module _ (n : ℕ) where
           tt,
         )
       where
-        large : Fails (char_inside i.bytes) (WrongAt e d p) → kind.InvalidHexEscapeLiteral ≤ e
+        large : Fails (char_inside i.bytes) (Err (WrongAt e d p)) → kind.InvalidHexEscapeLiteral ≤ e
         large (inl k) = omega arith
         large (inr k) = let z : e ≡ kind.InvalidCharDelimiter = k.0 in omega arith
 

@@ -5,7 +5,7 @@ use mathlib.Core.Bool.{Bool, true, false, ◌&&◌}
 use mathlib.Core.List.{List, [], ◌∷◌}
 use lib.ListN.{length, drop}
 use lib.Dec.{eqb, ltb}
-use Rattle.std.specs.Prelude.{if◌then◌else◌}
+use Rattle.std.specs.Prelude.{None, Option, Some}
 use Rattle.laws.proofs.Choice.{by_bool}
 use Rattle.chars.specs.Utf8.{chars}
 use Rattle.chars.specs.Encode.{width}
@@ -18,8 +18,6 @@ use Rattle.items.proofs.Every.{Every}
 use Rattle.meaning.specs.Places.{place_in}
 use Rattle.lexer.specs.Reading.{Turn, gives, ends, moved, pick, turn_at, turn_from, turn, keep, next_from, next_at, size_of}
 use Rattle.lexer.specs.declared.Spot.{Spot}
-use Rattle.findings_rows.specs.declared.Closing.{Closing}
-use Rattle.findings_rows.specs.declared.Closing.TheVariants.{Behind, Nowhere}
 use Rattle.findings_rows.specs.Mended.{slips, quote_of, closing_of, ended_at, unclosed_at, slip_turn, mend_turn, mended_at, mended_from, mended_of, opening_spot}
 use Rattle.findings_rows.proofs.Lays.{from_gives, from_ends}
 
@@ -70,9 +68,9 @@ module _ (P : Item → Type 0)
   -- ---- the mended reading
 
   module _ (s : List ℕ) (ended : (e : ℕ) (i : Item) → P i → P (ended_at e i)) (unclosed : (quote start e : ℕ) → P (unclosed_at quote start e)) where
-    slip_given : (i : Item) (q : Spot) (c : Closing) → P i → Given P (slip_turn s i q c)
-    slip_given i q (Behind e) h = ended e i h
-    slip_given i q Nowhere h = unclosed (quote_of s i.start) i.start (length s)
+    slip_given : (i : Item) (q : Spot) (c : Option ℕ) → P i → Given P (slip_turn s i q c)
+    slip_given i q (Some e) h = ended e i h
+    slip_given i q None h = unclosed (quote_of s i.start) i.start (length s)
 
     mend_given : (t : Turn) → Given P t → Given P (mend_turn s t)
     mend_given ends h = tt

@@ -8,7 +8,7 @@ use lib.ListN.{length}
 use lib.Dec.{ltb}
 use native.Mathlib.Omega.{arith}
 use borrow.Author.Tests.{ltb-true, ltb-false}
-use Rattle.std.specs.Prelude.{if◌then◌else◌}
+use Rattle.std.specs.Prelude.{None, Option, Some}
 use Rattle.laws.specs.Quoted.{one_of}
 use Rattle.laws.proofs.Choice.{by_bool, and_true, no_yes}
 use Rattle.chars.specs.Utf8.{chars}
@@ -20,8 +20,6 @@ use Rattle.lexer.specs.Reading.{Turn, gives, ends, next_at, size_of, all_from, a
 use Rattle.lexer.specs.declared.Spot.{Spot}
 use Rattle.lexer.proofs.AllItems.{all_gives, all_ends}
 use Rattle.lexer.proofs.Opens.{reads_all}
-use Rattle.findings_rows.specs.declared.Closing.{Closing}
-use Rattle.findings_rows.specs.declared.Closing.TheVariants.{Behind, Nowhere}
 use Rattle.findings_rows.specs.Laid.{all_laid}
 use Rattle.findings_rows.specs.Mended.{escape_errors, character_at, slips, quote_of, closing_of, slip_turn, mend_turn, mended_at, mended_from, mended_of, opening_spot, unclosed_kind}
 use Rattle.findings_rows.specs.Rows.{rows_from, rows_of}
@@ -90,9 +88,9 @@ module _ (s : List ℕ) where
       head : (j : Item) (u : Spot) → mended_at s p ≡ gives j u → kind.first_error ≤ j.kind → ⊥
       head j u f w = let k : Every Fine (j ∷ mended_from n s u) = subst (Every Fine) (from_gives s n p u j f) h in omega (arith, k.0)
 
-      go : (c : Closing) → closing_of s i.kind i.start q.at ≡ c → ⊥
-      go (Behind x) f = head _ _ (mended_slip p q i e b ∙ ap (slip_turn s i q) f) (slip_wrong s i.kind i.start b)
-      go Nowhere f = head _ _ (mended_slip p q i e b ∙ ap (slip_turn s i q) f) (unclosed_wrong (quote_of s i.start))
+      go : (c : Option ℕ) → closing_of s i.kind i.start q.at ≡ c → ⊥
+      go (Some x) f = head _ _ (mended_slip p q i e b ∙ ap (slip_turn s i q) f) (slip_wrong s i.kind i.start b)
+      go None f = head _ _ (mended_slip p q i e b ∙ ap (slip_turn s i q) f) (unclosed_wrong (quote_of s i.start))
 
   fine_from : (n : ℕ) (p : Spot) → Every Fine (mended_from n s p) → Every Fine (all_from n s p)
   unfolding all_from

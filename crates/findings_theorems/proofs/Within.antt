@@ -1,12 +1,12 @@
 -- Where an error of report mode points at: from a place of its extent on. So do the errors of the mended reading.
-use Prim.Native.Nat.{ℕ, ◌+◌, ◌-◌, ◌≤◌, ◌<◌}
+use Prim.Native.Nat.{ℕ, ◌+◌, ◌≤◌, ◌<◌}
 use mathlib.Core.Path.{◌≡◌, sym, subst}
 use mathlib.Core.Bool.{Bool, true, false, ◌&&◌}
 use mathlib.Core.List.{List, [], ◌∷◌}
 use lib.ListN.{length, drop, length-drop}
 use lib.Dec.{leb}
 use native.Mathlib.Omega.{arith}
-use Rattle.std.specs.Prelude.{if◌then◌else◌}
+use Rattle.std.specs.Prelude.{Err, Ok, Result}
 use Rattle.laws.proofs.Choice.{by_bool, and_true, no_yes}
 use Rattle.chars.specs.Utf8.{chars}
 use Rattle.chars.specs.Encode.{width}
@@ -15,8 +15,8 @@ use Rattle.items.specs.Kinds as kind
 use Rattle.items.specs.Points.{PointsAt}
 use Rattle.items.specs.declared.Outcome.{Outcome}
 use Rattle.items.specs.declared.Outcome.TheVariants.{Token, Str, HereStr, Word, Run, Lined, Keyword, Character, Error, ErrorAt}
-use Rattle.items.specs.declared.CharValue.{CharValue}
-use Rattle.items.specs.declared.CharValue.TheVariants.{Scalar, Wrong, WrongAt}
+use Rattle.items.specs.declared.CharError.{CharError}
+use Rattle.items.specs.declared.CharError.TheVariants.{Wrong, WrongAt}
 use Rattle.items.specs.Readers.{Read, SoFar, read_item}
 use Rattle.items.specs.Meaning.{Meaning, character_of, char_inside, meaning_of}
 use Rattle.items.specs.Items.{Place, Item, range, unset, is_set, place_of, character_sets, items_of, extent_items, range_after}
@@ -49,11 +49,11 @@ points_within s e n a b h (PointsAt.delimiter m f g k) = (omega arith, omega ari
 points_within s e n a b h (PointsAt.stopped m f g k) = (omega arith, omega arith)
 points_within s e n a b h (PointsAt.backslash m f g k l) = (f, omega arith)
 
-character_range : (s : ℕ) (i : SoFar) → s < i.at → i.at ≡ s + length i.bytes → (v : CharValue) → Named (length (char_inside i.bytes)) v
+character_range : (s : ℕ) (i : SoFar) → s < i.at → i.at ≡ s + length i.bytes → (v : Result ℕ CharError) → Named (length (char_inside i.bytes)) v
     → Range s i.at (character_sets true v unset s i)
-character_range s i h l (Scalar c) k = unset_range s i.at
-character_range s i h l (Wrong e d) k = λ b. (omega arith, omega arith)
-character_range s i h l (WrongAt e d p) k = λ b. (omega arith, omega (arith, k.0, k.1, length-drop 2 i.bytes))
+character_range s i h l (Ok c) k = unset_range s i.at
+character_range s i h l (Err (Wrong e d)) k = λ b. (omega arith, omega arith)
+character_range s i h l (Err (WrongAt e d p)) k = λ b. (omega arith, omega (arith, k.0, k.1, length-drop 2 i.bytes))
 
 range_within : (s : ℕ) (o : Outcome) (i : SoFar) → s < i.at → i.at ≡ s + length i.bytes → Own s i.at o → Range s i.at (range_after true unset s o i)
 range_within s (Token k d) i h l w = unset_range s i.at

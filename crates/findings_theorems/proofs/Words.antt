@@ -8,7 +8,6 @@ use lib.Seq.{get_or-append-add}
 use lib.Dec.{leb}
 use native.Mathlib.Omega.{arith}
 use borrow.Author.Tests.{lt-leb}
-use Rattle.std.specs.Prelude.{if◌then◌else◌}
 use Rattle.items.specs.Kinds as kind
 use Rattle.items.specs.Items.{Item, depth_after, memory_of, record_words, record_of, records}
 use Rattle.items.proofs.Every.{Every}

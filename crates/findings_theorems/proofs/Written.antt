@@ -1,7 +1,7 @@
 -- `places_in_text`, of what the call answers: the words of every finding that `find` writes which are its places stand between two characters of
 -- the text. `places_answered`: so line and column answer each of them, and 34 is never refused.
 use Prim.Native.Nat.{ℕ, zero, suc, ◌+◌, ◌*◌, ◌/◌, ◌≤◌, ◌<◌}
-use mathlib.Core.Path.{◌≡◌}
+use mathlib.Core.Path.{◌≡◌, sym, ap}
 use mathlib.Core.Bool.{true}
 use mathlib.Core.List.{List, [], ◌∷◌}
 use lib.ListN.{length, get_or, drop, length-drop, get_or-append}
@@ -17,11 +17,11 @@ use Rattle.lines.proofs.Between.{Between, answered_between}
 use Rattle.lines_theorems.proofs.Records.{Answered}
 use Rattle.findings_rows.specs.Laid.{laid_rows}
 use Rattle.findings.specs.Finding.{finding_words, words_of}
-use Rattle.findings.specs.Laid.{laid_findings}
+use Rattle.findings.specs.Laid.{counted, laid_findings}
 use Rattle.findings.specs.Told.{errors_in}
-use Rattle.findings.specs.Find.{find_of, needed_rows, call_of}
+use Rattle.findings.specs.Find.{find_of, needed_rows, found, too_few, call_of}
 use Rattle.findings.specs.declared.Finding.{Finding}
-use Rattle.findings.specs.declared.FindAnswer.TheVariants.{Found, TooFew}
+use Rattle.findings.specs.declared.Counted.{Counted}
 use Rattle.findings_theorems.proofs.Places.{BothPlaces}
 use Rattle.findings_theorems.proofs.Characters.{BetweenBoth}
 use Rattle.findings_theorems.proofs.PlacesBetween.{places_between}
@@ -61,12 +61,12 @@ module _ (s : List ℕ) where
       (rw (place, get_or-append-add (words_of f) more (j * finding_words + k) 0)
       (laid_between fs h.1 (drop finding_words memory) j k (omega arith) (omega (arith, length-drop finding_words memory)) a b))
 
-  module _ (rows memory : List ℕ) (n errors : ℕ) (answered : (call_of s rows memory).answer ≡ Found n errors) where
+  module _ (rows memory : List ℕ) (n errors : ℕ) (answered : (call_of s rows memory).answer ≡ found n errors) where
     served : (n ≡ length (find_of s)) × ((call_of s rows memory).findings ≡ laid_findings (find_of s) memory)
     unfolding call_of
     served = by_bool (leb (length (needed_rows s)) (length rows / record_words))
-        (λ b. let z : Found (length (find_of s)) (errors_in (find_of s)) ≡ Found n errors = rw b at answered in let y : n ≡ length (find_of s) = cc in (y, rw b))
-        (λ b. let z : TooFew (length (needed_rows s)) ≡ Found n errors = rw b at answered in impossible cc)
+        (λ b. let z : found (length (find_of s)) (errors_in (find_of s)) ≡ found n errors = rw b at answered in let y : counted (length (find_of s)) (errors_in (find_of s)) ≡ counted n errors = cc in (ap (λ (k : Counted). k.findings) (sym y), rw b))
+        (λ b. let z : too_few (length (needed_rows s)) ≡ found n errors = rw b at answered in impossible cc)
 
     -- finding j of those that are written, and its place in the word k
     module _ (j : ℕ) (there : j < n) (fits : j * finding_words + finding_words ≤ length memory) (k : ℕ) (from : first_place ≤ k) (to : k < finding_words) where

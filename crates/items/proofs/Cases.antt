@@ -1,12 +1,13 @@
 -- A case for each class of a character, each kind of `#` word, each value and each step, with the equation that says which it is.
+use Rattle.std.proofs.Common.{Err, Ok, Result}
 use Rattle.items.specs.declared.Outcome.{Outcome}
 use Rattle.items.specs.declared.Phase.{Phase}
 use Rattle.items.specs.declared.Next.{Next}
 use Rattle.items.specs.declared.Next.TheVariants.{Eat, Stop}
 use Rattle.items.specs.declared.HashKind.{HashKind}
 use Rattle.items.specs.declared.HashKind.TheVariants.{Decided, Bracket, Undecided}
-use Rattle.items.specs.declared.CharValue.{CharValue}
-use Rattle.items.specs.declared.CharValue.TheVariants.{Scalar, Wrong, WrongAt}
+use Rattle.items.specs.declared.CharError.{CharError}
+use Rattle.items.specs.declared.CharError.TheVariants.{Wrong, WrongAt}
 use Rattle.items.specs.Classes.{First, semicolon, quote, comma, hash, number, single, vertical, backslash, wordy, InQuotes, ends}
 use Rattle.items.specs.Classes.{escapes, plain, AfterBackslash, simple, hex_x, hex_u, blank, newline, invalid, InHex, closes, stops}
 use Rattle.items.specs.Classes.{digit, InTrim, space, line, solid, InNest, bar, sharp, inside, InWord, breaks, skips, goes, InRun}
@@ -88,12 +89,12 @@ module _ {P : Type 0} where
   by_delim blank_delim f g h i = h refl
   by_delim of_delim f g h i = i refl
 
-  pub by_value : (k : CharValue) → ((x : ℕ) → k ≡ Scalar x → P) → ((x : ℕ) (y : ℕ) → k ≡ Wrong x y → P)
-      → ((x : ℕ) (y : ℕ) (z : ℕ) → k ≡ WrongAt x y z → P)
+  pub by_value : (k : Result ℕ CharError) → ((x : ℕ) → k ≡ Ok x → P) → ((x : ℕ) (y : ℕ) → k ≡ Err (Wrong x y) → P)
+      → ((x : ℕ) (y : ℕ) (z : ℕ) → k ≡ Err (WrongAt x y z) → P)
       → P
-  by_value (Scalar x) f g h = f x refl
-  by_value (Wrong x y) f g h = g x y refl
-  by_value (WrongAt x y z) f g h = h x y z refl
+  by_value (Ok x) f g h = f x refl
+  by_value (Err (Wrong x y)) f g h = g x y refl
+  by_value (Err (WrongAt x y z)) f g h = h x y z refl
 
   pub by_kind : (k : HashKind) → ((x : Outcome) → k ≡ Decided x → P) → ((x : ℕ) → k ≡ Bracket x → P) → (k ≡ Undecided → P) → P
   by_kind (Decided x) f g h = f x refl

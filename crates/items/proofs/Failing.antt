@@ -1,4 +1,5 @@
 -- Where an error that knows its place points (02 (vii)): at a range within the bytes in which it was found.
+use Rattle.std.proofs.Common.{Ok, Err, Result}
 use Prim.Native.Nat.{ℕ, zero, suc, ◌+◌, ◌-◌, ◌*◌, ◌%◌, ◌^◌, ◌≤◌, ◌<◌}
 use mathlib.Core.Bool.{Bool, ◌&&◌, ◌||◌}
 use mathlib.Core.List.{List, [], ◌∷◌, map}
@@ -15,12 +16,10 @@ use Rattle.chars.specs.declared.Step.{Step}
 use Rattle.chars.specs.declared.Step.TheVariants as step
 use Rattle.chars.specs.Utf8.{first, rest, front, Front}
 use Rattle.chars.specs.Utf8 as Utf8
-use Rattle.digits.specs.declared.Hex.{Hex}
-use Rattle.digits.specs.declared.Hex.TheVariants as hex
 use Rattle.digits.specs.Digits.{digit_of}
-use Rattle.digits.specs.Hex.{hex_value, hex_digits, hex_after_plus, empty}
-use Rattle.items.specs.declared.CharValue.{CharValue}
-use Rattle.items.specs.declared.CharValue.TheVariants.{Scalar, Wrong, WrongAt}
+use Rattle.digits.specs.Hex.{hex_value, hex_digits, hex_after_plus, empty, Hex}
+use Rattle.items.specs.declared.CharError.{CharError}
+use Rattle.items.specs.declared.CharError.TheVariants.{Wrong, WrongAt}
 use Rattle.items.specs.Meaning.{lookup, lower, char_names, unnamed, before_delimiter, nameless, only_one, later, hex_named, spelled_out, character_of}
 use Rattle.items.specs.Readers.{first_is, last_is, scalar_of, front_width, past_failing}
 
@@ -51,14 +50,14 @@ past_within d at t =
 
 -- ---- the failing place lies in the bytes that were read, of which there are m
 
-abbrev pub Inside : ℕ → CharValue → Type 0
-Inside m (Scalar c) = Unit {0}
-Inside m (Wrong e d) = Unit {0}
-Inside m (WrongAt e d p) = p ≤ m
+abbrev pub Inside : ℕ → Result ℕ CharError → Type 0
+Inside m (Ok c) = Unit {0}
+Inside m (Err (Wrong e d)) = Unit {0}
+Inside m (Err (WrongAt e d p)) = p ≤ m
 
 abbrev pub HexInside : ℕ → Hex → Type 0
-HexInside m (hex.Value v) = Unit {0}
-HexInside m (hex.Wrong d p) = p ≤ m
+HexInside m (Ok v) = Unit {0}
+HexInside m (Err w) = w.place ≤ m
 
 digits_inside : (m p v : ℕ) (s : List ℕ) → p + length s ≤ m → HexInside m (hex_digits p v s)
 unfolding hex_digits
@@ -81,18 +80,18 @@ value_inside (c ∷ s) =
 
 scalar_inside : (m : ℕ) (h : Hex) → HexInside m h → Inside m (scalar_of h)
 unfolding scalar_of
-scalar_inside m (hex.Value v) h = if_all (Inside m) (is_scalar v) tt tt
-scalar_inside m (hex.Wrong d p) h = h
+scalar_inside m (Ok v) h = if_all (Inside m) (is_scalar v) tt tt
+scalar_inside m (Err w) h = h
 
 pub hex_inside : (s : List ℕ) → Inside (length s) (scalar_of (hex_value s))
 hex_inside s = scalar_inside (length s) (hex_value s) (value_inside s)
 
 -- ---- and so it does in a character's name, of which there are m bytes, one or more
 
-abbrev pub Named : ℕ → CharValue → Type 0
-Named m (Scalar c) = Unit {0}
-Named m (Wrong e d) = Unit {0}
-Named m (WrongAt e d p) = (1 ≤ m) × (p ≤ m)
+abbrev pub Named : ℕ → Result ℕ CharError → Type 0
+Named m (Ok c) = Unit {0}
+Named m (Err (Wrong e d)) = Unit {0}
+Named m (Err (WrongAt e d p)) = (1 ≤ m) × (p ≤ m)
 
 nameless_inside : (report : Bool) (t : List ℕ) → Named (length t) (nameless report t)
 unfolding nameless
@@ -107,15 +106,15 @@ only_inside report (Utf8.bad n) t = nameless_inside report t
 only_inside report Utf8.cut t = nameless_inside report t
 only_inside report Utf8.none t = nameless_inside report t
 
-later_inside : (n k m : ℕ) (v : CharValue) → Inside k v → 1 ≤ m → n + k ≤ m → Named m (later n v)
-later_inside n k m (Scalar c) h some fits = tt
-later_inside n k m (Wrong e d) h some fits = tt
-later_inside n k m (WrongAt e d p) h some fits = (some, omega arith)
+later_inside : (n k m : ℕ) (v : Result ℕ CharError) → Inside k v → 1 ≤ m → n + k ≤ m → Named m (later n v)
+later_inside n k m (Ok c) h some fits = tt
+later_inside n k m (Err (Wrong e d)) h some fits = tt
+later_inside n k m (Err (WrongAt e d p)) h some fits = (some, omega arith)
 
 named_inside : (t : List ℕ) → 1 < length t → Named (length t) (hex_named t)
 unfolding hex_named
 named_inside t h =
-    let P : CharValue → Type 0 = Named (length t) in
+    let P : Result ℕ CharError → Type 0 = Named (length t) in
     let braced : List ℕ = take (length t - 3) (drop 2 t) in
     if_all P (first_is (code "u") t && eqb (get_or t 1 0) (code "{"))
     (if_all P (last_is (code "}") t)

@@ -1,16 +1,16 @@
 -- What an outcome says of its item: a string's bytes stand between quotes, an error's range lies in the text, a detail is a small number
 -- or a character of the text. That it holds of the items that are read, stands in `Outcomes`.
+use Rattle.std.proofs.Common.{Ok, Err, Result}
 use Rattle.items.specs.declared.Outcome.{Outcome}
 use Rattle.items.specs.declared.Outcome.TheVariants.{Token, Str, HereStr, Word, Run, Lined, Keyword, Character, Error, ErrorAt}
-use Rattle.items.specs.declared.CharValue.{CharValue}
-use Rattle.items.specs.declared.CharValue.TheVariants.{Scalar, Wrong, WrongAt}
+use Rattle.items.specs.declared.CharError.{CharError}
+use Rattle.items.specs.declared.CharError.TheVariants.{Wrong, WrongAt}
 use Rattle.items.specs.Readers.{last_is, scalar_of}
 use Rattle.items.specs.Readers.{here_ends}
 use Rattle.laws.specs.Quoted.{code}
 use Rattle.laws.proofs.Choice.{if_all, if_is}
 use Rattle.chars.specs.Encode.{is_scalar}
-use Rattle.digits.specs.declared.Hex.{Hex}
-use Rattle.digits.specs.Hex.{hex_value, hex_digits, hex_after_plus}
+use Rattle.digits.specs.Hex.{hex_value, hex_digits, hex_after_plus, Hex}
 use Rattle.digits.specs.Digits.{digit_of}
 use Prim.Native.Nat.{ℕ, ◌+◌, ◌*◌, ◌^◌, ◌≤◌, ◌<◌}
 use mathlib.Core.Path.{◌≡◌}
@@ -20,7 +20,6 @@ use lib.ListN.{length}
 use lib.Dec.{eqb, ltb}
 use native.Mathlib.Omega.{arith}
 use borrow.Author.Tests.{ltb-true}
-use Rattle.digits.specs.declared.Hex.TheVariants as hex
 use Rattle.items.specs.Kinds as kind
 
 -- two bytes at least, the last of them b
@@ -48,14 +47,14 @@ Fine D n raw (Error e d) = Numbered D e d
 Fine D n raw (ErrorAt e d a b) = Numbered D e d × Ranged n a b
 
 -- a character's value, and the value of hex digits
-abbrev pub FineValue : (ℕ → Type 0) → CharValue → Type 0
-FineValue D (Scalar c) = D c
-FineValue D (Wrong e d) = Numbered D e d
-FineValue D (WrongAt e d p) = Numbered D e d
+abbrev pub FineValue : (ℕ → Type 0) → Result ℕ CharError → Type 0
+FineValue D (Ok c) = D c
+FineValue D (Err (Wrong e d)) = Numbered D e d
+FineValue D (Err (WrongAt e d p)) = Numbered D e d
 
 abbrev pub FineHex : Hex → Type 0
-FineHex (hex.Value v) = v < 2 ^ 32
-FineHex (hex.Wrong d p) = d < 2 ^ 32
+FineHex (Ok v) = v < 2 ^ 32
+FineHex (Err w) = w.detail < 2 ^ 32
 
 -- ---- numbers
 
@@ -82,8 +81,8 @@ hex_value_lem (c ∷ s) = if_all FineHex (eqb c (code "+")) (hex_plus s) (hex_di
 module _ (D : ℕ → Type 0) (small : (d : ℕ) → d < 2 ^ 32 → D d) where
   fine_hex : (h : Hex) → FineHex h → FineValue D (scalar_of h)
   unfolding scalar_of
-  fine_hex (hex.Value v) h = if_all (FineValue D) (is_scalar v) (small v h) (omega arith, small v h)
-  fine_hex (hex.Wrong d p) h = (omega arith, small d h)
+  fine_hex (Ok v) h = if_all (FineValue D) (is_scalar v) (small v h) (omega arith, small v h)
+  fine_hex (Err w) h = (omega arith, small w.detail h)
 
   pub fine_scalar : (s : List ℕ) → FineValue D (scalar_of (hex_value s))
   fine_scalar s = fine_hex (hex_value s) (hex_value_lem s)

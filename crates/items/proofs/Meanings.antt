@@ -1,10 +1,11 @@
 -- What is made of an extent, given what its outcome says of its bytes: kinds and details are small numbers, a text lies where its item
 -- does, and an extent's items and their decoded bytes are no more than its bytes.
+use Rattle.std.proofs.Common.{Ok, Err, Result}
 use Rattle.items.specs.declared.Quotes.TheVariants.{Double, Lines}
 use Rattle.items.specs.declared.Outcome.{Outcome}
 use Rattle.items.specs.declared.Outcome.TheVariants.{Token, Str, HereStr, Word, Run, Lined, Keyword, Character, Error, ErrorAt}
-use Rattle.items.specs.declared.CharValue.{CharValue}
-use Rattle.items.specs.declared.CharValue.TheVariants.{Scalar, Wrong, WrongAt}
+use Rattle.items.specs.declared.CharError.{CharError}
+use Rattle.items.specs.declared.CharError.TheVariants.{Wrong, WrongAt}
 use Rattle.items.specs.Items.{memory_of}
 use Rattle.items.specs.Meaning.{means, one, lookup, words, word_kind, word_means, run_means, escaped, unescape, string_text, lined_text}
 use Rattle.items.specs.Meaning.{here_text, lower, char_names, unnamed, before_delimiter, nameless, only_one, later, hex_named, spelled_out, character_of, char_inside}
@@ -19,8 +20,7 @@ use Rattle.laws.specs.Texts.{before, same}
 use Rattle.laws.proofs.Choice.{by_bool, if_all, if_is, and_true, within_is, impossible}
 use Rattle.chars.specs.declared.Step.{Step}
 use Rattle.chars.specs.Utf8.{first, rest, front, Front}
-use Rattle.numbers.specs.declared.Parsed.{Parsed}
-use Rattle.numbers.specs.Grammar.{parse_number}
+use Rattle.numbers.specs.Grammar.{parse_number, Parsed}
 use Prim.Native.Nat.{ℕ, zero, suc, ◌+◌, ◌-◌, ◌*◌, ◌%◌, ◌^◌, ◌≤◌, ◌<◌}
 use mathlib.Core.Path.{◌≡◌, refl}
 use mathlib.Core.Bool.{Bool, true, false, ◌&&◌, ◌||◌}
@@ -31,7 +31,7 @@ use native.Mathlib.Omega.{arith}
 use borrow.Author.Tests.{ltb-true, ltb-false, leb-true}
 use Rattle.chars.specs.Utf8 as Utf8
 use Rattle.chars.specs.declared.Step.TheVariants as step
-use Rattle.numbers.specs.declared.Parsed.TheVariants as parsed
+use Rattle.numbers.specs.declared.ParseError.TheVariants as parsed
 use Rattle.items.specs.Kinds as kind
 
 -- the greatest kind: that of the last error
@@ -184,15 +184,15 @@ module _ (D : ℕ → Type 0) (small : (d : ℕ) → d < 2 ^ 32 → D d) where
   fine_only report Utf8.cut t h = fine_nameless report t
   fine_only report Utf8.none t h = fine_nameless report t
 
-  fine_later : (n : ℕ) (v : CharValue) → FineValue D v → FineValue D (later n v)
-  fine_later n (Scalar c) h = h
-  fine_later n (Wrong e d) h = h
-  fine_later n (WrongAt e d p) h = h
+  fine_later : (n : ℕ) (v : Result ℕ CharError) → FineValue D v → FineValue D (later n v)
+  fine_later n (Ok c) h = h
+  fine_later n (Err (Wrong e d)) h = h
+  fine_later n (Err (WrongAt e d p)) h = h
 
   fine_named : (t : List ℕ) → FineValue D (hex_named t)
   unfolding hex_named
   fine_named t =
-      let P : CharValue → Type 0 = FineValue D in
+      let P : Result ℕ CharError → Type 0 = FineValue D in
       if_all P (first_is (code "u") t && eqb (get_or t 1 0) (code "{"))
       (if_all P (last_is (code "}") t) (fine_later 2 (scalar_of (hex_value (take (length t - 3) (drop 2 t)))) (fine_scalar D small (take (length t - 3) (drop 2 t))))
       (omega arith, small (code "}") (omega arith)))
@@ -241,14 +241,14 @@ module _ (D : ℕ → Type 0) (small : (d : ℕ) → d < 2 ^ 32 → D d) where
 
     run_made : (p : Parsed) → Made D s e (run_means p s e raw)
     unfolding run_means
-    run_made (parsed.Is p) = one_made kind.Number 0 none (omega arith) (small 0 (omega arith)) tt
-    run_made parsed.NoNumber = word_made
-    run_made parsed.ZeroDenominator = one_made (kind.first_error + kind.ZeroDenominator) 0 none (omega arith) (small 0 (omega arith)) tt
+    run_made (Ok p) = one_made kind.Number 0 none (omega arith) (small 0 (omega arith)) tt
+    run_made (Err parsed.NoNumber) = word_made
+    run_made (Err parsed.ZeroDenominator) = one_made (kind.first_error + kind.ZeroDenominator) 0 none (omega arith) (small 0 (omega arith)) tt
 
-    character_made : (v : CharValue) → FineValue D v → Made D s e (character_means v)
-    character_made (Scalar c) h = one_made kind.CharacterLiteral c none (omega arith) h tt
-    character_made (Wrong n d) h = one_made (kind.first_error + n) d none (omega arith) h.1 tt
-    character_made (WrongAt n d p) h = one_made (kind.first_error + n) d none (omega arith) h.1 tt
+    character_made : (v : Result ℕ CharError) → FineValue D v → Made D s e (character_means v)
+    character_made (Ok c) h = one_made kind.CharacterLiteral c none (omega arith) h tt
+    character_made (Err (Wrong n d)) h = one_made (kind.first_error + n) d none (omega arith) h.1 tt
+    character_made (Err (WrongAt n d p)) h = one_made (kind.first_error + n) d none (omega arith) h.1 tt
 
     pub made : (report : Bool) (n : ℕ) (o : Outcome) → Fine D n raw o → Made D s e (meaning_of report o s e raw)
     made report n (Token k d) h = one_made k d none (omega arith) h.1 tt

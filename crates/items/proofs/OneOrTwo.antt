@@ -1,17 +1,17 @@
 -- An extent gives one item, or two: a word that begins with a plus. So nothing that was read is left out, and a reader that hands out
 -- items one by one keeps at most one of them back.
+use Rattle.std.proofs.Common.{Ok, Err, Result}
 use Rattle.items.specs.declared.Outcome.{Outcome}
 use Rattle.items.specs.declared.Outcome.TheVariants.{Token, Str, HereStr, Word, Run, Lined, Keyword, Character, Error, ErrorAt}
-use Rattle.items.specs.declared.CharValue.{CharValue}
-use Rattle.items.specs.declared.CharValue.TheVariants.{Scalar, Wrong, WrongAt}
+use Rattle.items.specs.declared.CharError.{CharError}
+use Rattle.items.specs.declared.CharError.TheVariants.{Wrong, WrongAt}
 use Rattle.items.specs.Items.{range_after, standing, items_of, extent_items, Place}
 use Rattle.items.specs.Meaning.{word_kind, word_means, run_means, character_of, char_inside, character_means, meaning_of, Meaning}
 use Rattle.items.specs.Readers.{first_is, SoFar}
 use Rattle.items.proofs.Order.{items_length}
 use Rattle.laws.specs.Quoted.{code}
 use Rattle.laws.proofs.Choice.{if_all}
-use Rattle.numbers.specs.declared.Parsed.{Parsed}
-use Rattle.numbers.specs.Grammar.{parse_number}
+use Rattle.numbers.specs.Grammar.{parse_number, Parsed}
 use Prim.Native.Nat.{ℕ, ◌≤◌}
 use mathlib.Core.Path.{◌≡◌}
 use mathlib.Core.Bool.{Bool, ◌&&◌}
@@ -19,7 +19,7 @@ use mathlib.Core.List.{List}
 use lib.ListN.{length}
 use lib.Dec.{eqb, ltb}
 use native.Mathlib.Omega.{arith}
-use Rattle.numbers.specs.declared.Parsed.TheVariants as parsed
+use Rattle.numbers.specs.declared.ParseError.TheVariants as parsed
 use Rattle.items.specs.Kinds as kind
 
 abbrev pub OneOrTwo : {A : Type 0} → List A → Type 0
@@ -38,14 +38,14 @@ few_word s e raw =
 
 few_run : (p : Parsed) (s e : ℕ) (raw : List ℕ) → OneOrTwo (run_means p s e raw)
 unfolding run_means
-few_run (parsed.Is p) s e raw = just_one
-few_run parsed.NoNumber s e raw = few_word s e raw
-few_run parsed.ZeroDenominator s e raw = just_one
+few_run (Ok p) s e raw = just_one
+few_run (Err parsed.NoNumber) s e raw = few_word s e raw
+few_run (Err parsed.ZeroDenominator) s e raw = just_one
 
-few_character : (v : CharValue) → OneOrTwo (character_means v)
-few_character (Scalar c) = just_one
-few_character (Wrong e d) = just_one
-few_character (WrongAt e d p) = just_one
+few_character : (v : Result ℕ CharError) → OneOrTwo (character_means v)
+few_character (Ok c) = just_one
+few_character (Err (Wrong e d)) = just_one
+few_character (Err (WrongAt e d p)) = just_one
 
 few_meanings : (report : Bool) (o : Outcome) (s e : ℕ) (raw : List ℕ) → OneOrTwo (meaning_of report o s e raw)
 few_meanings report (Token k d) s e raw = just_one

@@ -1,10 +1,11 @@
 -- Laws of the items of any text, in both modes: items come in the order of their extents, no item is empty or reaches past the text,
 -- places and texts lie in the text, items never outnumber bytes, nor do the bytes of the text memory. One induction over the turns of
 -- `items_from`, with what is known of one extent.
+use Rattle.std.proofs.Common.{Err, Ok, Result}
 use Rattle.items.specs.declared.Outcome.{Outcome}
 use Rattle.items.specs.declared.Outcome.TheVariants.{Token, Str, HereStr, Word, Run, Lined, Keyword, Character, Error, ErrorAt}
-use Rattle.items.specs.declared.CharValue.{CharValue}
-use Rattle.items.specs.declared.CharValue.TheVariants.{Scalar, Wrong, WrongAt}
+use Rattle.items.specs.declared.CharError.{CharError}
+use Rattle.items.specs.declared.CharError.TheVariants.{Wrong, WrongAt}
 use Rattle.items.specs.Items.{unset, range, character_sets, range_after, standing, is_set, place_of, item_of, items_of, extent_items, items_from, items_at}
 use Rattle.items.specs.Items.{past_line, after_pound, items, memory_of, texts, byte_count, Place, Item}
 use Rattle.items.specs.Meaning.{character_of, char_inside, meaning_of, Meaning}
@@ -147,11 +148,11 @@ module _ (D : ℕ → Type 0) (small : (d : ℕ) → d < 2 ^ 32 → D d) (report
   range_ranged n last s Character i f h g l =
       sets (char_inside i.bytes) refl (character_of report (char_inside i.bytes)) (character_inside report (char_inside i.bytes))
     where
-      sets : (t : List ℕ) → t ≡ char_inside i.bytes → (v : CharValue) → Named (length t) v
+      sets : (t : List ℕ) → t ≡ char_inside i.bytes → (v : Result ℕ CharError) → Named (length t) v
           → Ranged n (character_sets report v last s i).from (character_sets report v last s i).to
-      sets t q (Scalar c) w = h
-      sets t q (Wrong e d) w = g
-      sets t q (WrongAt e d p) w =
+      sets t q (Ok c) w = h
+      sets t q (Err (Wrong e d)) w = g
+      sets t q (Err (WrongAt e d p)) w =
           let past = past_within d (s + 2 + p) (drop p (char_inside i.bytes)) in
           if_all (λ (x : Place). Ranged n x.from x.to) report
           (past.0, omega (arith, past.1, ap length q, length-drop p (char_inside i.bytes), length-drop 2 i.bytes)) g

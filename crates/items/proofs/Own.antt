@@ -1,5 +1,6 @@
 -- In report mode an error points at its own place: what is known of an outcome, which carries its own range, and of a character that is none. That
 -- an item that is read has it, stands in `OwnSteps`.
+use Rattle.std.proofs.Common.{Ok, Err, Result}
 use Prim.Native.Nat.{ℕ, suc, ◌+◌, ◌-◌, ◌≤◌, ◌<◌}
 use mathlib.Core.Path.{◌≡◌, refl}
 use mathlib.Core.Bool.{Bool, true, false, ◌&&◌, ◌||◌}
@@ -16,18 +17,16 @@ use Rattle.chars.specs.Encode.{is_scalar}
 use Rattle.chars.specs.Utf8.{front, Front}
 use Rattle.chars.specs.Utf8 as Utf8
 use Rattle.chars.proofs.Round.{one_read}
-use Rattle.digits.specs.Hex.{hex_value}
-use Rattle.digits.specs.declared.Hex.{Hex}
-use Rattle.digits.specs.declared.Hex.TheVariants as hex
+use Rattle.digits.specs.Hex.{hex_value, Hex}
 use Rattle.items.specs.declared.Outcome.{Outcome}
 use Rattle.items.specs.declared.Outcome.TheVariants.{Token, Str, HereStr, Word, Run, Lined, Keyword, Character, Error, ErrorAt}
-use Rattle.items.specs.declared.CharValue.{CharValue}
-use Rattle.items.specs.declared.CharValue.TheVariants.{Scalar, Wrong, WrongAt}
+use Rattle.items.specs.declared.CharError.{CharError}
+use Rattle.items.specs.declared.CharError.TheVariants.{Wrong, WrongAt}
 use Rattle.items.specs.Kinds as kind
 use Rattle.items.specs.Meaning.{lookup}
 use Rattle.items.specs.Meaning.{lower, char_names, unnamed, is_delimiter, before_delimiter, nameless, only_one, later, hex_named, spelled_out, character_of}
 use Rattle.items.specs.Points.{extent_errors, PointsAt}
-use Rattle.items.specs.Readers.{first_is, last_is, cut, scalar_of, past_failing}
+use Rattle.items.specs.Readers.{first_is, last_is, scalar_of, past_failing}
 
 pub holds : (b : Bool) → T b → b ≡ true
 holds true t = refl
@@ -50,15 +49,15 @@ Own s e (ErrorAt n d a b) = (0 < b) × PointsAt s e n a b
 -- ---- a character that is none
 
 -- the error of any bytes t after `#\`: where it fails there is a digit or none, or a delimiter after the first character
-abbrev pub Fails : List ℕ → CharValue → Type 0
-Fails t (Scalar x) = Unit {0}
-Fails t (Wrong n d) = T (one_of extent_errors n)
-Fails t (WrongAt n d p) = (n ≡ kind.InvalidHexEscapeLiteral) ⊎ ((n ≡ kind.InvalidCharDelimiter) × (0 < p) × (p < length t) × ((at : ℕ) → past_failing d at (drop p t) ≡ at + 1))
+abbrev pub Fails : List ℕ → Result ℕ CharError → Type 0
+Fails t (Ok x) = Unit {0}
+Fails t (Err (Wrong n d)) = T (one_of extent_errors n)
+Fails t (Err (WrongAt n d p)) = (n ≡ kind.InvalidHexEscapeLiteral) ⊎ ((n ≡ kind.InvalidCharDelimiter) × (0 < p) × (p < length t) × ((at : ℕ) → past_failing d at (drop p t) ≡ at + 1))
 
 digits_fail : (t : List ℕ) (n : ℕ) (h : Hex) → Fails t (later n (scalar_of h))
 unfolding scalar_of
-digits_fail t n (hex.Value v) = if_all (λ (x : CharValue). Fails t (later n x)) (is_scalar v) tt tt
-digits_fail t n (hex.Wrong d p) = inl refl
+digits_fail t n (Ok v) = if_all (λ (x : Result ℕ CharError). Fails t (later n x)) (is_scalar v) tt tt
+digits_fail t n (Err w) = inl refl
 
 -- a delimiter is one byte
 pub delimiter_small : (c : ℕ) → is_delimiter c ≡ true → c < 0x80

@@ -1,6 +1,7 @@
 -- In report mode every item points at its own place (specs/Points): what an outcome sets (Own) is the place of its item, and where it sets
 -- none the place is the extent, since no earlier range stands.
-use Prim.Native.Nat.{ℕ, zero, suc, ◌+◌, ◌-◌, ◌≤◌, ◌<◌}
+use Rattle.std.proofs.Common.{Ok, Err, Result}
+use Prim.Native.Nat.{ℕ, zero, suc, ◌+◌, ◌≤◌, ◌<◌}
 use mathlib.Core.Path.{◌≡◌, refl}
 use mathlib.Core.Bool.{true, ◌&&◌}
 use mathlib.Core.List.{List, [], ◌∷◌, ◌++◌}
@@ -13,13 +14,12 @@ use Rattle.laws.specs.Quoted.{code, one_of}
 use Rattle.laws.proofs.Choice.{by_bool, if_all}
 use Rattle.chars.specs.Encode.{width}
 use Rattle.chars.specs.Blank.{is_blank}
-use Rattle.numbers.specs.Grammar.{parse_number}
-use Rattle.numbers.specs.declared.Parsed.{Parsed}
-use Rattle.numbers.specs.declared.Parsed.TheVariants as parsed
+use Rattle.numbers.specs.Grammar.{parse_number, Parsed}
+use Rattle.numbers.specs.declared.ParseError.TheVariants as parsed
 use Rattle.items.specs.declared.Outcome.{Outcome}
 use Rattle.items.specs.declared.Outcome.TheVariants.{Token, Str, HereStr, Word, Run, Lined, Keyword, Character, Error, ErrorAt}
-use Rattle.items.specs.declared.CharValue.{CharValue}
-use Rattle.items.specs.declared.CharValue.TheVariants.{Scalar, Wrong, WrongAt}
+use Rattle.items.specs.declared.CharError.{CharError}
+use Rattle.items.specs.declared.CharError.TheVariants.{Wrong, WrongAt}
 use Rattle.items.specs.Kinds as kind
 use Rattle.items.specs.Items.{Place, range, unset, character_sets, range_after, place_of, Item, items_of, extent_items, items_from, past_line, after_pound, items}
 use Rattle.items.specs.Meaning.{Text, none, source, Meaning, one, word_kind, word_means, run_means, string_text, lined_text, here_text}
@@ -67,27 +67,27 @@ module _ (s e : ℕ) where
 
   run_own : (p : Parsed) (raw : List ℕ) → Owned unset (run_means p s e raw)
   unfolding run_means
-  run_own (parsed.Is p) raw = good_one kind.Number 0 none refl
-  run_own parsed.NoNumber raw = word_own raw
-  run_own parsed.ZeroDenominator raw = unset_error kind.ZeroDenominator 0 refl
+  run_own (Ok p) raw = good_one kind.Number 0 none refl
+  run_own (Err parsed.NoNumber) raw = word_own raw
+  run_own (Err parsed.ZeroDenominator) raw = unset_error kind.ZeroDenominator 0 refl
 
   -- an error at a range of its own
   at_own : (n d a b : ℕ) → 0 < b → PointsAt s e n a b → Owned (range a b) (one (kind.first_error + n) d none)
   at_own n d a b h p = (OwnPlace.error n refl (rw (set_place n a b (range s e) h) p), tt)
 
-  character_own : (i : SoFar) → i.at ≡ e → i.at ≡ s + length i.bytes → (v : CharValue) → Fails (char_inside i.bytes) v
+  character_own : (i : SoFar) → i.at ≡ e → i.at ≡ s + length i.bytes → (v : Result ℕ CharError) → Fails (char_inside i.bytes) v
       → Named (length (char_inside i.bytes)) v
       → Owned (character_sets true v unset s i) (character_means v)
-  character_own i l g (Scalar c) f w = good_one kind.CharacterLiteral c none refl
-  character_own i l g (Wrong n d) f w =
+  character_own i l g (Ok c) f w = good_one kind.CharacterLiteral c none refl
+  character_own i l g (Err (Wrong n d)) f w =
       rw l (OwnPlace.error n refl (rw (extent_place (kind.first_error + n) (range s e)) (PointsAt.extent (holds _ f) refl refl)), tt)
-  character_own i l g (WrongAt n d p) f w =
+  character_own i l g (Err (WrongAt n d p)) f w =
       let t : List ℕ = char_inside i.bytes in
       let past = past_within d (s + 2 + p) (drop p t) in
       let ends : past_failing d (s + 2 + p) (drop p t) ≤ e = omega (arith, past.1, length-drop p t, length-drop 2 i.bytes) in
       at_own n d (s + 2 + p) (past_failing d (s + 2 + p) (drop p t)) (omega (arith, past.0)) (points f ends past.0)
     where
-      points : Fails (char_inside i.bytes) (WrongAt n d p) → past_failing d (s + 2 + p) (drop p (char_inside i.bytes)) ≤ e
+      points : Fails (char_inside i.bytes) (Err (WrongAt n d p)) → past_failing d (s + 2 + p) (drop p (char_inside i.bytes)) ≤ e
           → s + 2 + p ≤ past_failing d (s + 2 + p) (drop p (char_inside i.bytes))
           → PointsAt s e n (s + 2 + p) (past_failing d (s + 2 + p) (drop p (char_inside i.bytes)))
       points (inl h) ends past = PointsAt.failing h (omega arith) past ends

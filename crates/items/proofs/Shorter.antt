@@ -1,8 +1,8 @@
 -- Decoded text is not longer than the bytes that it was read from, and where these end with the closing quote it is shorter. An escape
 -- has at least as many bytes as what it stands for: four bytes of a character take a backslash, a letter, a digit and a closer.
+use Rattle.std.proofs.Common.{Ok, Err}
 use Rattle.items.specs.declared.Quotes.{Quotes}
 use Rattle.items.specs.declared.Quotes.TheVariants.{Double, Lines}
-use Rattle.items.specs.declared.CharValue.TheVariants.{Scalar}
 use Rattle.items.specs.Classes.{delim_of, in_quotes, after_backslash, stops_hex, in_hex, in_trim, ends, plain, closes, stops}
 use Rattle.items.specs.Meaning.{unescape, unescape_next, unescape_brace, unescape_hex, unescape_trim}
 use Rattle.items.specs.Readers.{last_is, scalar_of}
@@ -12,9 +12,7 @@ use Rattle.chars.proofs.Width.{width_le, width-utf8}
 use Rattle.laws.specs.Quoted.{code}
 use Rattle.laws.proofs.Choice.{by_bool, if_all, impossible}
 use Rattle.chars.specs.Encode.{is_scalar, encode}
-use Rattle.digits.specs.Hex.{hex_value}
-use Rattle.digits.specs.declared.Hex.{Hex}
-use Rattle.digits.specs.declared.Hex.TheVariants as hex
+use Rattle.digits.specs.Hex.{hex_value, Hex}
 use Prim.Native.Nat.{ℕ, suc, ◌+◌, ◌-◌, ◌≤◌}
 use mathlib.Core.Path.{◌≡◌, refl}
 use mathlib.Core.Bool.{Bool, true, false}
@@ -30,19 +28,19 @@ unfolding encode
 encode_le v = if_all (λ (l : List ℕ). length l ≤ 4) (is_scalar v) (omega (arith, width-utf8 v, width_le v)) (omega arith)
 
 -- a value has a digit
-digit_there : (ds : List ℕ) (v : ℕ) → scalar_of (hex_value ds) ≡ Scalar v → 1 ≤ length ds
+digit_there : (ds : List ℕ) (v : ℕ) → scalar_of (hex_value ds) ≡ Ok v → 1 ≤ length ds
 unfolding hex_value scalar_of
 digit_there [] v e = impossible cc
 digit_there (d ∷ ds) v e = omega arith
 
 -- digits that spell a character spell a scalar value
-pub scalar_is : (h : Hex) (v : ℕ) → scalar_of h ≡ Scalar v → is_scalar v ≡ true
+pub scalar_is : (h : Hex) (v : ℕ) → scalar_of h ≡ Ok v → is_scalar v ≡ true
 unfolding scalar_of
-scalar_is (hex.Value n) v e =
+scalar_is (Ok n) v e =
     by_bool (is_scalar n)
     (λ y. let f = rw y at e in let q : n ≡ v = cc in rw (← q) y)
     (λ y. let f = rw y at e in impossible cc)
-scalar_is (hex.Wrong d p) v e = impossible cc
+scalar_is (Err w) v e = impossible cc
 
 -- E is what is known of the bytes, t how much shorter than these the text is for it
 module _ (k : Quotes) (t : ℕ) (small : t ≤ 1) (E : List ℕ → Type 0) (tail : (c : ℕ) (cs : List ℕ) → E (c ∷ cs) → E cs)

@@ -1,5 +1,6 @@
 -- One walk over the machine, for every law that each step of it keeps. What is known in a phase before a character (`Knows`) gives what is known
 -- after it, or what the outcome says; a law gives the few cases where this bites, `WalkSteps` and `WalkEnds`, and all phases and classes stand here.
+use Rattle.std.proofs.Common.{Ok, Err}
 use Prim.Native.Nat.{ℕ, ◌+◌, ◌-◌, ◌^◌, ◌≤◌, ◌<◌}
 use mathlib.Core.Path.{◌≡◌, refl, ap}
 use mathlib.Core.Bool.{Bool, true, false}
@@ -13,9 +14,7 @@ use Rattle.laws.specs.Quoted.{code}
 use Rattle.laws.specs.Texts.{begins, same}
 use Rattle.laws.proofs.Choice.{if_all, if_is}
 use Rattle.chars.specs.Encode.{is_scalar, spelled}
-use Rattle.digits.specs.declared.Hex.{Hex}
-use Rattle.digits.specs.declared.Hex.TheVariants as hex
-use Rattle.digits.specs.Hex.{hex_value, empty}
+use Rattle.digits.specs.Hex.{hex_value, empty, Hex, wrong}
 use Rattle.items.specs.declared.Quotes.{Quotes}
 use Rattle.items.specs.declared.Quotes.TheVariants.{Double, Lines}
 use Rattle.items.specs.declared.Outcome.{Outcome}
@@ -112,7 +111,7 @@ pub record WalkSteps (report : Bool) (i : SoFar) (c : ℕ) (x a : Knows) (S : Ou
   pub no_scalar : (k : Quotes) (closer from m v : ℕ) → x.digits k closer from m → v < 2 ^ 32
       → a.done (ErrorAt kind.InvalidHexCodePoint v from (eat i c).at)
   pub fails : (k : Quotes) (closer from m d p : ℕ) → x.digits k closer from m → c ≡ closer
-      → hex_value (drop m i.bytes) ≡ hex.Wrong d p → d < 2 ^ 32 → p ≤ length (drop m i.bytes)
+      → hex_value (drop m i.bytes) ≡ wrong d p → d < 2 ^ 32 → p ≤ length (drop m i.bytes)
       → a.done (failing_in report kind.InvalidHexEscapeLiteral d from (eat i c).at (drop p (drop m i.bytes)) i)
 
 -- what is known after a step
@@ -271,9 +270,9 @@ module _ (report : Bool) (i : SoFar) (c : ℕ) (x a : Knows) (S : Outcome → Ty
   goes_close : (v : Hex) (q : Quotes) (closer from m : ℕ) → hex_value (drop m i.bytes) ≡ v → FineHex v → HexInside (length (drop m i.bytes)) v
       → c ≡ closer → x.digits q closer from m → G (close_hex report (scalar_of v) q from m (eat i c).at i)
   unfolding scalar_of
-  goes_close (hex.Value v) q closer from m f l g z h =
+  goes_close (Ok v) q closer from m f l g z h =
       if_all (λ r. G (close_hex report r q from m (eat i c).at i)) (is_scalar v) (s.carries.scalar q closer from m h) (s.no_scalar q closer from m v h l)
-  goes_close (hex.Wrong d p) q closer from m f l g z h = s.fails q closer from m d p h z f l g
+  goes_close (Err w) q closer from m f l g z h = s.fails q closer from m w.detail w.place h z f l g
 
   goes_hex : (k : InHex) (q : Quotes) (closer from m : ℕ) → OfHex closer c k → x.digits q closer from m → G (on_hex report k q closer from m i c)
   goes_hex closes q closer from m z h =

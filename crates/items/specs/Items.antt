@@ -1,5 +1,5 @@
 -- The definition, part 3: the items of a text, their records and their texts. Document 01, "An item".
-use Rattle.std.specs.Prelude.{ℕ, zero, suc, ◌+◌, ◌-◌, Bool, true, false, ◌&&◌, List, [], ◌∷◌, ◌++◌, length, drop, eqb, leb, ltb, if◌then◌else◌}
+use Rattle.std.specs.Prelude.{ℕ, zero, suc, ◌+◌, ◌-◌, Bool, true, false, ◌&&◌, List, [], ◌∷◌, ◌++◌, length, drop, eqb, leb, ltb, if◌then◌else◌, Err, Ok, Result}
 use Rattle.laws.specs.Quoted.{code}
 use Rattle.chars.specs.Encode.{width}
 use Rattle.chars.specs.Blank.{is_blank}
@@ -7,8 +7,8 @@ use Rattle.items.specs.declared.Outcome.{Outcome}
 use Rattle.items.specs.declared.Outcome.TheVariants.{Token, Str, HereStr, Word, Run, Lined, Keyword, Character, Error, ErrorAt}
 use Rattle.items.specs.declared.Nine.{Nine}
 use Rattle.items.specs.declared.Record.{Record}
-use Rattle.items.specs.declared.CharValue.{CharValue}
-use Rattle.items.specs.declared.CharValue.TheVariants.{Scalar, Wrong, WrongAt}
+use Rattle.items.specs.declared.CharError.{CharError}
+use Rattle.items.specs.declared.CharError.TheVariants.{Wrong, WrongAt}
 use Rattle.items.specs.Kinds as kind
 use Rattle.items.specs.Readers.{SoFar, Read, past_failing, read_item}
 use Rattle.items.specs.Meaning.{Text, none, source, decoded, Meaning, meaning_of, character_of, char_inside}
@@ -31,10 +31,10 @@ abbrev pub failing_at : ℕ → ℕ → ℕ → List ℕ → Place
 failing_at s d p raw = range (s + 2 + p) (past_failing d (s + 2 + p) (drop p (char_inside raw)))
 
 -- a character that is none sets its extent, or what fails in it (02 (vii))
-abbrev pub character_sets : Bool → CharValue → Place → ℕ → SoFar → Place
-character_sets report (Scalar c) last s i = last
-character_sets report (Wrong e d) last s i = range s i.at
-character_sets report (WrongAt e d p) last s i = if report then failing_at s d p i.bytes else range s i.at
+abbrev pub character_sets : Bool → Result ℕ CharError → Place → ℕ → SoFar → Place
+character_sets report (Ok c) last s i = last
+character_sets report (Err (Wrong e d)) last s i = range s i.at
+character_sets report (Err (WrongAt e d p)) last s i = if report then failing_at s d p i.bytes else range s i.at
 
 -- The last `error` range after an item that starts at s: its own where it sets one, else the one before. Errors 1 to 4, 7 and 8 set none
 abbrev pub range_after : Bool → Place → ℕ → Outcome → SoFar → Place

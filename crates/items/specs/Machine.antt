@@ -1,7 +1,7 @@
 -- The machine: what a character does in a phase, what the end of the text makes of a phase, and the scan of one item. A means of
 -- proof. The piece calls' contracts cite it; of states that calls made, pieces' `call_means` says the same without it. `i` is the item so
 -- far, which the code has as a part of the source or in the piece state.
-use Rattle.std.specs.Prelude.{ℕ, ◌+◌, ◌-◌, Bool, List, [], ◌∷◌, length, drop, eqb, leb, if◌then◌else◌}
+use Rattle.std.specs.Prelude.{ℕ, ◌+◌, ◌-◌, Bool, List, [], ◌∷◌, length, drop, eqb, leb, if◌then◌else◌, Err, Ok, Result}
 use Rattle.laws.specs.Quoted.{code}
 use Rattle.digits.specs.Hex.{hex_value, empty}
 use Rattle.items.specs.declared.Quotes.{Quotes}
@@ -14,8 +14,8 @@ use Rattle.items.specs.declared.Next.{Next}
 use Rattle.items.specs.declared.Next.TheVariants.{Eat, Stop}
 use Rattle.items.specs.declared.HashKind.{HashKind}
 use Rattle.items.specs.declared.HashKind.TheVariants.{Decided, Bracket, Undecided}
-use Rattle.items.specs.declared.CharValue.{CharValue}
-use Rattle.items.specs.declared.CharValue.TheVariants.{Scalar, Wrong, WrongAt}
+use Rattle.items.specs.declared.CharError.{CharError}
+use Rattle.items.specs.declared.CharError.TheVariants.{Wrong, WrongAt}
 use Rattle.items.specs.Kinds as kind
 use Rattle.items.specs.Classes.{First, semicolon, quote, comma, hash, number, single, vertical, backslash, wordy}
 use Rattle.items.specs.Classes.{InQuotes, in_quotes, ends, escapes, plain, AfterBackslash, after_backslash, simple, hex_x, hex_u, blank, newline, invalid}
@@ -67,10 +67,10 @@ on_brace report stops k from i c = Eat (ph.Done (ErrorAt kind.UnclosedHexEscape 
 on_brace report digit k from i c = Eat (ph.Hex k (code ";") from (length i.bytes))
 
 -- the digits, before which n bytes of the item stand, are closed, and the escape goes from `from` to `to`
-abbrev pub close_hex : Bool → CharValue → Quotes → ℕ → ℕ → ℕ → SoFar → Next
-close_hex report (Scalar v) k from n to i = Eat (ph.Quoted k)
-close_hex report (Wrong e d) k from n to i = Eat (ph.Done (ErrorAt e d from to))
-close_hex report (WrongAt e d p) k from n to i = Eat (ph.Done (failing_in report e d from to (drop p (drop n i.bytes)) i))
+abbrev pub close_hex : Bool → Result ℕ CharError → Quotes → ℕ → ℕ → ℕ → SoFar → Next
+close_hex report (Ok v) k from n to i = Eat (ph.Quoted k)
+close_hex report (Err (Wrong e d)) k from n to i = Eat (ph.Done (ErrorAt e d from to))
+close_hex report (Err (WrongAt e d p)) k from n to i = Eat (ph.Done (failing_in report e d from to (drop p (drop n i.bytes)) i))
 
 abbrev pub on_hex : Bool → InHex → Quotes → ℕ → ℕ → ℕ → SoFar → ℕ → Next
 on_hex report closes k closer from n i c = close_hex report (scalar_of (hex_value (drop n i.bytes))) k from n (eat i c).at i

@@ -1,5 +1,5 @@
 -- The definition, part 2: kind, detail and text of an item, by its outcome and its bytes. Document 01, "An item".
-use Rattle.std.specs.Prelude.{ℕ, suc, ◌+◌, ◌-◌, Bool, true, false, not, ◌&&◌, ◌||◌, List, [], ◌∷◌, ◌++◌, map, length, get_or, take, drop, eqb, leb, ltb, if◌then◌else◌}
+use Rattle.std.specs.Prelude.{ℕ, suc, ◌+◌, ◌-◌, Bool, true, false, not, ◌&&◌, ◌||◌, List, [], ◌∷◌, ◌++◌, map, length, get_or, take, drop, eqb, leb, ltb, if◌then◌else◌, Ok, Err, Result}
 use Prim.Native.String.{String}
 use Rattle.laws.specs.Quoted.{code, one_of}
 use Rattle.laws.specs.Texts.{span, same}
@@ -7,15 +7,14 @@ use Rattle.chars.specs.Encode.{encode, spelled}
 use Rattle.chars.specs.Utf8.{front, Front}
 use Rattle.chars.specs.Utf8 as Utf8
 use Rattle.digits.specs.Hex.{hex_value}
-use Rattle.numbers.specs.Grammar.{parse_number}
-use Rattle.numbers.specs.declared.Parsed.{Parsed}
-use Rattle.numbers.specs.declared.Parsed.TheVariants as parsed
+use Rattle.numbers.specs.Grammar.{parse_number, Parsed}
+use Rattle.numbers.specs.declared.ParseError.TheVariants as parsed
 use Rattle.items.specs.declared.Quotes.{Quotes}
 use Rattle.items.specs.declared.Quotes.TheVariants.{Double, Lines}
 use Rattle.items.specs.declared.Outcome.{Outcome}
 use Rattle.items.specs.declared.Outcome.TheVariants.{Token, Str, HereStr, Word, Run, Lined, Keyword, Character, Error, ErrorAt}
-use Rattle.items.specs.declared.CharValue.{CharValue}
-use Rattle.items.specs.declared.CharValue.TheVariants.{Scalar, Wrong, WrongAt}
+use Rattle.items.specs.declared.CharError.{CharError}
+use Rattle.items.specs.declared.CharError.TheVariants.{Wrong, WrongAt}
 use Rattle.items.specs.Kinds as kind
 use Rattle.items.specs.Classes.{in_quotes, ends, escapes, plain, after_backslash, simple, hex_x, hex_u, blank, newline, invalid}
 use Rattle.items.specs.Classes.{in_hex, closes, stops, digit, in_trim, space, line, solid}
@@ -92,9 +91,9 @@ word_means s e raw =
 
 -- a number run is a Number; a word where it is no number (E6); or error 8 (E5)
 unfoldable pub run_means : Parsed → ℕ → ℕ → List ℕ → List Meaning
-run_means (parsed.Is p) s e raw = one kind.Number 0 none
-run_means parsed.NoNumber s e raw = word_means s e raw
-run_means parsed.ZeroDenominator s e raw = one (kind.first_error + kind.ZeroDenominator) 0 none
+run_means (Ok p) s e raw = one kind.Number 0 none
+run_means (Err parsed.NoNumber) s e raw = word_means s e raw
+run_means (Err parsed.ZeroDenominator) s e raw = one (kind.first_error + kind.ZeroDenominator) 0 none
 
 -- ---- strings, and identifiers wholly in vertical lines
 
@@ -131,7 +130,7 @@ unfoldable mutual
   pub unescape_hex : Quotes → ℕ → List ℕ → List ℕ → List ℕ
   unescape_hex k closer ds [] = []
   unescape_hex k closer ds (c ∷ cs) = elim (in_hex k closer c) [
-    | closes ↦ elim (scalar_of (hex_value ds)) [ Scalar v ↦ encode v ++ unescape k cs | Wrong e d ↦ [] | WrongAt e d p ↦ [] ]
+    | closes ↦ elim (scalar_of (hex_value ds)) [ Ok v ↦ encode v ++ unescape k cs | Err (Wrong e d) ↦ [] | Err (WrongAt e d p) ↦ [] ]
     | stops ↦ []
     | digit ↦ unescape_hex k closer (ds ++ (c ∷ [])) cs
   ]
@@ -191,50 +190,50 @@ before_delimiter t = span (λ c. not (is_delimiter c)) t
 
 -- Bytes that name nothing: error 10, but in report mode 13 and the place of the first delimiter after the first character, if there is
 -- one (02 (vii)). The bytes of a character after its first are no delimiters
-unfoldable pub nameless : Bool → List ℕ → CharValue
+unfoldable pub nameless : Bool → List ℕ → Result ℕ CharError
 nameless report t =
     let p : ℕ = suc (before_delimiter (drop 1 t)) in
-    if report && ltb p (length t) then WrongAt kind.InvalidCharDelimiter 0 p else Wrong kind.InvalidCharName 0
+    if report && ltb p (length t) then Err (WrongAt kind.InvalidCharDelimiter 0 p) else Err (Wrong kind.InvalidCharName 0)
 
 -- bytes that are one character and nothing else
-abbrev pub only_one : Bool → Front → List ℕ → CharValue
-only_one report (Utf8.char c n) t = if eqb n (length t) then Scalar c else nameless report t
+abbrev pub only_one : Bool → Front → List ℕ → Result ℕ CharError
+only_one report (Utf8.char c n) t = if eqb n (length t) then Ok c else nameless report t
 only_one report (Utf8.bad n) t = nameless report t
 only_one report Utf8.cut t = nameless report t
 only_one report Utf8.none t = nameless report t
 
 -- the value of a part that starts after n bytes: its failing place is counted from the start of the whole
-abbrev pub later : ℕ → CharValue → CharValue
-later n (Scalar c) = Scalar c
-later n (Wrong e d) = Wrong e d
-later n (WrongAt e d p) = WrongAt e d (n + p)
+abbrev pub later : ℕ → Result ℕ CharError → Result ℕ CharError
+later n (Ok c) = Ok c
+later n (Err (Wrong e d)) = Err (Wrong e d)
+later n (Err (WrongAt e d p)) = Err (WrongAt e d (n + p))
 
 -- `x` or `u` and digits; after `u{` the last byte must be `}`, else error 9
-unfoldable pub hex_named : List ℕ → CharValue
+unfoldable pub hex_named : List ℕ → Result ℕ CharError
 hex_named t =
     if first_is (code "u") t && eqb (get_or t 1 0) (code "{")
-    then (if last_is (code "}") t then later 2 (scalar_of (hex_value (take (length t - 3) (drop 2 t)))) else Wrong kind.UnclosedHexEscape (code "}"))
+    then (if last_is (code "}") t then later 2 (scalar_of (hex_value (take (length t - 3) (drop 2 t)))) else Err (Wrong kind.UnclosedHexEscape (code "}")))
     else later 1 (scalar_of (hex_value (drop 1 t)))
 
 -- `x` and `u` alone are these letters
-unfoldable pub spelled_out : Bool → List ℕ → CharValue
+unfoldable pub spelled_out : Bool → List ℕ → Result ℕ CharError
 spelled_out report t =
     if (first_is (code "u") t || first_is (code "x") t) && ltb 1 (length t)
     then hex_named t
     else only_one report (front t) t
 
 -- a name goes before all else, without regard to ASCII case
-unfoldable pub character_of : Bool → List ℕ → CharValue
-character_of report t = let n : ℕ = lookup char_names (map lower t) unnamed in if eqb n unnamed then spelled_out report t else Scalar n
+unfoldable pub character_of : Bool → List ℕ → Result ℕ CharError
+character_of report t = let n : ℕ = lookup char_names (map lower t) unnamed in if eqb n unnamed then spelled_out report t else Ok n
 
 -- the bytes after `#\`
 abbrev pub char_inside : List ℕ → List ℕ
 char_inside raw = drop 2 raw
 
-abbrev pub character_means : CharValue → List Meaning
-character_means (Scalar c) = one kind.CharacterLiteral c none
-character_means (Wrong e d) = one (kind.first_error + e) d none
-character_means (WrongAt e d p) = one (kind.first_error + e) d none
+abbrev pub character_means : Result ℕ CharError → List Meaning
+character_means (Ok c) = one kind.CharacterLiteral c none
+character_means (Err (Wrong e d)) = one (kind.first_error + e) d none
+character_means (Err (WrongAt e d p)) = one (kind.first_error + e) d none
 
 -- ---- every outcome
 

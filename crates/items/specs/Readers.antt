@@ -1,23 +1,21 @@
 -- The definition, part 1: where an item ends, and what it turned out to be. Readers on the characters of a text, shaped like the
 -- functions of the Rust, whose names stand in the headings; where R7RS 7.1.1 has a production, its name stands there too.
 -- A reader is given the item so far and the characters that are left, and says what it got: the outcome, the item, the rest.
-use Rattle.std.specs.Prelude.{ℕ, ◌+◌, ◌-◌, Bool, true, false, List, [], ◌∷◌, ◌++◌, length, get_or, take, drop, eqb, leb, ltb, if◌then◌else◌}
+use Rattle.std.specs.Prelude.{ℕ, ◌+◌, ◌-◌, Bool, true, false, List, [], ◌∷◌, ◌++◌, length, get_or, take, drop, eqb, leb, ltb, if◌then◌else◌, Ok, Err, Result}
 use Rattle.laws.specs.Quoted.{code}
 use Rattle.laws.specs.Texts.{before, begins, same}
 use Rattle.chars.specs.Encode.{width, utf8, is_scalar, spelled}
 use Rattle.chars.specs.Utf8.{front, Front}
 use Rattle.chars.specs.Utf8 as Utf8
-use Rattle.digits.specs.Hex.{hex_value, empty}
-use Rattle.digits.specs.declared.Hex.{Hex}
-use Rattle.digits.specs.declared.Hex.TheVariants as hex
+use Rattle.digits.specs.Hex.{hex_value, empty, Hex}
 use Rattle.items.specs.declared.Quotes.{Quotes}
 use Rattle.items.specs.declared.Quotes.TheVariants.{Double, Lines}
 use Rattle.items.specs.declared.Outcome.{Outcome}
 use Rattle.items.specs.declared.Outcome.TheVariants.{Token, Str, HereStr, Word, Run, Lined, Keyword, Character, Error, ErrorAt}
 use Rattle.items.specs.declared.HashKind.{HashKind}
 use Rattle.items.specs.declared.HashKind.TheVariants.{Decided, Bracket, Undecided}
-use Rattle.items.specs.declared.CharValue.{CharValue}
-use Rattle.items.specs.declared.CharValue.TheVariants.{Scalar, Wrong, WrongAt}
+use Rattle.items.specs.declared.CharError.{CharError}
+use Rattle.items.specs.declared.CharError.TheVariants.{Wrong, WrongAt}
 use Rattle.items.specs.Kinds as kind
 use Rattle.items.specs.Classes.{first_of, semicolon, quote, comma, hash, number, single, vertical, backslash, wordy}
 use Rattle.items.specs.Classes.{in_quotes, ends, escapes, plain, after_backslash, simple, hex_x, hex_u, blank, newline, invalid}
@@ -116,9 +114,9 @@ cut Double = Error kind.IncompleteString 0
 cut Lines = Error kind.IncompleteIdentifier 0
 
 -- the character that hex digits stand for: `char::from_u32` of their value (E10), error 11 and the failing place where they have none
-unfoldable pub scalar_of : Hex → CharValue
-scalar_of (hex.Value v) = if is_scalar v then Scalar v else Wrong kind.InvalidHexCodePoint v
-scalar_of (hex.Wrong d p) = WrongAt kind.InvalidHexEscapeLiteral d p
+unfoldable pub scalar_of : Hex → Result ℕ CharError
+scalar_of (Ok v) = if is_scalar v then Ok v else Err (Wrong kind.InvalidHexCodePoint v)
+scalar_of (Err w) = Err (WrongAt kind.InvalidHexEscapeLiteral w.detail w.place)
 
 -- how many bytes the character has that stands at the front of some bytes
 abbrev pub front_width : Front → ℕ
@@ -180,9 +178,9 @@ unfoldable mutual
   read_hex report k closer from n i [] = got (cut k) i []
   read_hex report k closer from n i (c ∷ cs) = elim (in_hex k closer c) [
     | closes ↦ elim (scalar_of (hex_value (drop n i.bytes))) [
-      | Scalar v ↦ read_quoted report k (eat i c) cs
-      | Wrong e d ↦ got (ErrorAt e d from (eat i c).at) (eat i c) cs
-      | WrongAt e d p ↦ got (failing_in report e d from (eat i c).at (drop p (drop n i.bytes)) i) (eat i c) cs
+      | Ok v ↦ read_quoted report k (eat i c) cs
+      | Err (Wrong e d) ↦ got (ErrorAt e d from (eat i c).at) (eat i c) cs
+      | Err (WrongAt e d p) ↦ got (failing_in report e d from (eat i c).at (drop p (drop n i.bytes)) i) (eat i c) cs
     ]
     | stops ↦ got (ErrorAt kind.UnclosedHexEscape closer from i.at) (eat i c) cs
     | digit ↦ read_hex report k closer from n (eat i c) cs

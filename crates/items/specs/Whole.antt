@@ -1,10 +1,8 @@
 -- The whole-text call, all of it: what it answers and what both lent memories hold afterwards. Document 01, "Refused calls".
-use Rattle.std.specs.Prelude.{ℕ, ◌/◌, Bool, List, length, eqb, leb, ltb, if◌then◌else◌}
+use Rattle.std.specs.Prelude.{ℕ, ◌/◌, Bool, List, length, eqb, leb, ltb, if◌then◌else◌, None, Option, Some}
 use Rattle.laws.specs.Lent.{written}
 use Rattle.refusal.specs.Refusals as refusal
 use Rattle.chars.specs.Utf8.{chars, first_bad}
-use Rattle.chars.specs.declared.Utf8.{Utf8}
-use Rattle.chars.specs.declared.Utf8.TheVariants.{Good, Bad}
 use Rattle.items.specs.Items.{Item, items, kept, record_words, records, texts}
 
 -- served: how many items, and how many bytes of decoded text; refused: 01's number, and the two values that it comes with (0 where
@@ -47,9 +45,9 @@ deliver is recs text =
     else call (refused refusal.too_few (length is) (length (texts is))) recs text
 
 -- 21 where the source is not UTF-8
-abbrev pub if_good : Utf8 → Call → List ℕ → List ℕ → Call
-if_good Good good recs text = good
-if_good (Bad p) good recs text = call (refused refusal.not_utf8 p 0) recs text
+abbrev pub if_good : Option ℕ → Call → List ℕ → List ℕ → Call
+if_good None good recs text = good
+if_good (Some p) good recs text = call (refused refusal.not_utf8 p 0) recs text
 
 -- 25, 20, 21, 22 in that order
 unfoldable pub read_of : List ℕ → ℕ → Bool → List ℕ → List ℕ → Call

@@ -132,10 +132,9 @@ pub enum HashKind {
     Undecided,
 }
 
-// The character that some digits or a name stand for, or an error.
+// Why some digits or a name stand for no character.
 #[derive(Clone, Copy)]
-pub enum CharValue {
-    Scalar(u32),
+pub enum CharError {
     // an error's number and detail
     Wrong(u32, u32),
     // the same, and how many bytes stand before the place where it fails

@@ -1,12 +1,11 @@
 -- What the whole-text call wrote, where it served: the records in memory cover the source. The call's contract is an equation with `read_of`.
+use Rattle.std.proofs.Common.{None, Option, Some}
 use Rattle.refusal.specs.Refusals as refusal
 use Rattle.items.specs.Items.{Item, items, kept, record_words, records, texts}
 use Rattle.items.specs.Whole.{served, refused, Call, call, limit, is_mode, in_report, items_in, deliver, if_good, read_of}
 use Rattle.laws.specs.Lent.{written}
 use Rattle.laws.proofs.Choice.{if_all, if_is, impossible}
 use Rattle.chars.specs.Utf8.{chars, first_bad}
-use Rattle.chars.specs.declared.Utf8.{Utf8}
-use Rattle.chars.specs.declared.Utf8.TheVariants.{Good, Bad}
 use Rattle.chars.proofs.Good.{good_bytes_lem}
 use Rattle.items_coverage.specs.Covered.{Seen, Covered, PutBack}
 use Rattle.items_coverage.specs.Sentences.{InOrder, NoneUnseen, NotMore}
@@ -26,7 +25,7 @@ use borrow.Author.Tests.{ltb-false}
 module _ (source : List ℕ) (mode : ℕ) (skip : Bool) (recs text : List ℕ) (n m : ℕ) where
   -- what a call that served leaves
   pub record Delivered (k : Call) : Type 0 where
-    pub good : first_bad source ≡ Good
+    pub good : first_bad source ≡ None
     pub short : length source ≤ limit
     pub count : n ≡ length (items_in source mode skip)
     pub wrote : k.records ≡ written (records 0 0 (items_in source mode skip)) recs
@@ -38,7 +37,7 @@ module _ (source : List ℕ) (mode : ℕ) (skip : Bool) (recs text : List ℕ) (
   refused_not : (number a b : ℕ) → Leaves (call (refused number a b) recs text)
   refused_not number a b e = impossible cc
 
-  delivered : first_bad source ≡ Good → length source ≤ limit → Leaves (deliver (items_in source mode skip) recs text)
+  delivered : first_bad source ≡ None → length source ≤ limit → Leaves (deliver (items_in source mode skip) recs text)
   unfolding deliver
   delivered g l =
       let is : List Item = items_in source mode skip in
@@ -48,9 +47,9 @@ module _ (source : List ℕ) (mode : ℕ) (skip : Bool) (recs text : List ℕ) (
       (refused_not refusal.too_few (length is) (length (texts is))))
       (refused_not refusal.too_few (length is) (length (texts is)))
 
-  good_only : (u : Utf8) → first_bad source ≡ u → length source ≤ limit → Leaves (if_good u (deliver (items_in source mode skip) recs text) recs text)
-  good_only Good g l = delivered g l
-  good_only (Bad p) g l = refused_not refusal.not_utf8 p 0
+  good_only : (u : Option ℕ) → first_bad source ≡ u → length source ≤ limit → Leaves (if_good u (deliver (items_in source mode skip) recs text) recs text)
+  good_only None g l = delivered g l
+  good_only (Some p) g l = refused_not refusal.not_utf8 p 0
 
   pub leaves : Leaves (read_of source mode skip recs text)
   unfolding read_of
@@ -61,7 +60,7 @@ module _ (source : List ℕ) (mode : ℕ) (skip : Bool) (recs text : List ℕ) (
 
   -- a source that was served is UTF-8, within the limit, and its rows are the items' records
   pub record Rows : Type 0 where
-    pub good : first_bad source ≡ Good
+    pub good : first_bad source ≡ None
     pub short : length source ≤ limit
     pub rows : rows_in n (read_of source mode skip recs text).records ≡ rows_of (kept skip (items (in_report mode) (chars source)))
 

@@ -1,8 +1,9 @@
 -- One extent: it takes its characters from the front of the text, at least the first one, and gives one item, or the two identifiers of a word
 -- that starts with a plus. `read_splits` of crate `items` says of its bytes that they come from the front of the text's; `scan_chars` says it of
 -- whole characters.
-use Rattle.items.specs.declared.CharValue.{CharValue}
-use Rattle.items.specs.declared.CharValue.TheVariants.{Scalar, Wrong, WrongAt}
+use Rattle.std.proofs.Common.{Ok, Err, Result}
+use Rattle.items.specs.declared.CharError.{CharError}
+use Rattle.items.specs.declared.CharError.TheVariants.{Wrong, WrongAt}
 use Rattle.items.specs.declared.Outcome.{Outcome}
 use Rattle.items.specs.declared.Outcome.TheVariants.{Token, Str, HereStr, Word, Run, Lined, Keyword, Character, Error, ErrorAt}
 use Rattle.items.specs.declared.Phase.{Phase}
@@ -15,9 +16,8 @@ use Rattle.items.specs.Readers.{SoFar, so_far, eat, first_is, read_item}
 use Rattle.items.proofs.Cases.{by_next}
 use Rattle.items.proofs.Same.{item_same}
 use Rattle.items.proofs.Splits.{read_at}
-use Rattle.numbers.specs.declared.Parsed.{Parsed}
-use Rattle.numbers.specs.declared.Parsed.TheVariants as parsed
-use Rattle.numbers.specs.Grammar.{parse_number}
+use Rattle.numbers.specs.declared.ParseError.TheVariants as parsed
+use Rattle.numbers.specs.Grammar.{parse_number, Parsed}
 use Rattle.laws.specs.Quoted.{code}
 use Rattle.laws.proofs.Choice.{if_all, if_is, and_true}
 use Rattle.chars.specs.Encode.{utf8, bytes_of}
@@ -80,14 +80,14 @@ module _ (s e : ℕ) (raw : List ℕ) where
 
   run_shape : (p : Parsed) → Shape raw (run_means p s e raw)
   unfolding run_means
-  run_shape (parsed.Is p) = alone _
-  run_shape parsed.NoNumber = word_shape
-  run_shape parsed.ZeroDenominator = alone _
+  run_shape (Ok p) = alone _
+  run_shape (Err parsed.NoNumber) = word_shape
+  run_shape (Err parsed.ZeroDenominator) = alone _
 
-  character_shape : (v : CharValue) → Shape raw (character_means v)
-  character_shape (Scalar c) = alone _
-  character_shape (Wrong n d) = alone _
-  character_shape (WrongAt n d p) = alone _
+  character_shape : (v : Result ℕ CharError) → Shape raw (character_means v)
+  character_shape (Ok c) = alone _
+  character_shape (Err (Wrong n d)) = alone _
+  character_shape (Err (WrongAt n d p)) = alone _
 
   shape : (report : Bool) (o : Outcome) → Shape raw (meaning_of report o s e raw)
   shape report (Token k d) = alone _

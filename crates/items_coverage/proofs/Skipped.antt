@@ -1,7 +1,8 @@
 -- Comments skipped: putting the comments back in gives what is read with comments kept, word for word. A comment has no text, so that it takes no
 -- place in the text memory, and it is no bracket, so that no depth changes.
-use Rattle.items.specs.declared.CharValue.{CharValue}
-use Rattle.items.specs.declared.CharValue.TheVariants.{Scalar, Wrong, WrongAt}
+use Rattle.std.proofs.Common.{Ok, Err, Result}
+use Rattle.items.specs.declared.CharError.{CharError}
+use Rattle.items.specs.declared.CharError.TheVariants.{Wrong, WrongAt}
 use Rattle.items.specs.declared.Outcome.{Outcome}
 use Rattle.items.specs.declared.Outcome.TheVariants.{Token, Str, HereStr, Word, Run, Lined, Keyword, Character, Error, ErrorAt}
 use Rattle.items.specs.Items.{Place, Item, items_of, extent_items, items, kept, depth_after, record_of, memory_of}
@@ -10,9 +11,8 @@ use Rattle.items.specs.Meaning.{Meaning, word_kind, word_means, run_means, chara
 use Rattle.items.specs.Readers.{SoFar, read_item, first_is}
 use Rattle.items.proofs.Depth.{comment_stays}
 use Rattle.items.proofs.Every.{Every, every_any}
-use Rattle.numbers.specs.declared.Parsed.{Parsed}
-use Rattle.numbers.specs.declared.Parsed.TheVariants as parsed
-use Rattle.numbers.specs.Grammar.{parse_number}
+use Rattle.numbers.specs.declared.ParseError.TheVariants as parsed
+use Rattle.numbers.specs.Grammar.{parse_number, Parsed}
 use Rattle.laws.specs.Quoted.{code}
 use Rattle.laws.proofs.Choice.{by_bool, if_all, no_yes}
 use Rattle.chars.specs.Encode.{bytes_of}
@@ -47,14 +47,14 @@ quiet_word s e raw =
 
 quiet_run : (p : Parsed) (s e : ℕ) (raw : List ℕ) → Every Quiet (run_means p s e raw)
 unfolding run_means
-quiet_run (parsed.Is p) s e raw = ((λ _. refl), tt)
-quiet_run parsed.NoNumber s e raw = quiet_word s e raw
-quiet_run parsed.ZeroDenominator s e raw = ((λ _. refl), tt)
+quiet_run (Ok p) s e raw = ((λ _. refl), tt)
+quiet_run (Err parsed.NoNumber) s e raw = quiet_word s e raw
+quiet_run (Err parsed.ZeroDenominator) s e raw = ((λ _. refl), tt)
 
-quiet_character : (v : CharValue) → Every Quiet (character_means v)
-quiet_character (Scalar c) = ((λ _. refl), tt)
-quiet_character (Wrong n d) = ((λ _. refl), tt)
-quiet_character (WrongAt n d p) = ((λ _. refl), tt)
+quiet_character : (v : Result ℕ CharError) → Every Quiet (character_means v)
+quiet_character (Ok c) = ((λ _. refl), tt)
+quiet_character (Err (Wrong n d)) = ((λ _. refl), tt)
+quiet_character (Err (WrongAt n d p)) = ((λ _. refl), tt)
 
 quiet : (report : Bool) (o : Outcome) (s e : ℕ) (raw : List ℕ) → Every Quiet (meaning_of report o s e raw)
 quiet report (Token k d) s e raw = ((λ _. refl), tt)

@@ -1,5 +1,6 @@
 -- The reader passes exactly the elements: before whatever elements it goes on behind them as it would begin there, and an item that it
 -- reads without an error is made of elements, up to its closing quote or, in vertical lines, to the end of the text.
+use Rattle.std.proofs.Common.{Ok}
 use Prim.Native.Nat.{ℕ, ◌-◌}
 use mathlib.Core.Path.{◌≡◌, refl, sym, ap, subst, ◌∙◌}
 use mathlib.Core.Bool.{Bool, true, false}
@@ -16,7 +17,6 @@ use Rattle.digits.specs.Hex.{hex_value}
 use Rattle.digits.specs.Hex.{empty as nothing}
 use Rattle.items.specs.declared.Quotes.{Quotes}
 use Rattle.items.specs.declared.Quotes.TheVariants.{Double, Lines}
-use Rattle.items.specs.declared.CharValue.TheVariants.{Scalar}
 use Rattle.items.specs.Classes.{delim_of, in_quotes, after_backslash, in_hex, in_trim, plain, closes}
 use Rattle.items.specs.Readers.{SoFar, eat, scalar_of, failing, unclosed, cut, read_quoted, read_escape, read_brace, read_hex, read_trim}
 use Rattle.items.specs.Kinds as kind
@@ -39,7 +39,7 @@ module _ (report : Bool) (k : Quotes) where
   hex_on closer from n i cs done = refl
   hex_on closer from n i cs (many.more {c = c} h m) = rw (h, read_hex) (hex_on closer from n (eat i c) cs m)
 
-  hex_close : (closer from n : ℕ) (i : SoFar) (cs : List ℕ) {v : ℕ} → in_hex k closer closer ≡ closes → scalar_of (hex_value (drop n i.bytes)) ≡ Scalar v
+  hex_close : (closer from n : ℕ) (i : SoFar) (cs : List ℕ) {v : ℕ} → in_hex k closer closer ≡ closes → scalar_of (hex_value (drop n i.bytes)) ≡ Ok v
       → read_hex report k closer from n i (closer ∷ cs) ≡ read_quoted report k (eat i closer) cs
   unfolding read_quoted
   hex_close closer from n i cs c e = rw (c, read_hex) (rw e)

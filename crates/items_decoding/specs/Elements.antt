@@ -1,6 +1,6 @@
 -- What stands between the quotes of a string, or between vertical lines, element by element: each as it is written, in characters, and the
 -- bytes that it stands for.
-use Rattle.std.specs.Prelude.{ℕ, ◌≡◌, false, List, [], ◌∷◌, ◌++◌, drop}
+use Rattle.std.specs.Prelude.{ℕ, ◌≡◌, false, List, [], ◌∷◌, ◌++◌, drop, Ok}
 use Rattle.laws.specs.Quoted.{code, codes, one_of}
 use Rattle.chars.specs.Encode.{utf8, bytes_of}
 use Rattle.digits.specs.Hex.{hex_value}
@@ -8,7 +8,6 @@ use Rattle.items.specs.declared.Quotes.{Quotes}
 use Rattle.items.specs.declared.Quotes.TheVariants.{Lines}
 use Rattle.items.specs.declared.Outcome.{Outcome}
 use Rattle.items.specs.declared.Outcome.TheVariants.{Token, Str, HereStr, Word, Run, Lined, Keyword, Character, Error, ErrorAt}
-use Rattle.items.specs.declared.CharValue.TheVariants.{Scalar}
 use Rattle.items.specs.Classes.{delim_of, in_quotes, plain, after_backslash, simple, in_hex, digit}
 use Rattle.items.specs.Meaning.{unescape}
 use Rattle.items.specs.Readers.{Read, scalar_of}
@@ -21,7 +20,7 @@ Digit k closer c = in_hex k closer c ≡ digit
 
 -- they are the digits of the character v
 abbrev pub Spells : List ℕ → ℕ → Type 0
-Spells ds v = scalar_of (hex_value (bytes_of ds)) ≡ Scalar v
+Spells ds v = scalar_of (hex_value (bytes_of ds)) ≡ Ok v
 
 -- where a line that goes on stops being skipped: at something, and at no space or tab
 abbrev pub Solid : List ℕ → Type 0

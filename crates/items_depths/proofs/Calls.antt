@@ -9,7 +9,7 @@ use native.Mathlib.Omega.{arith}
 use Rattle.chars.specs.Utf8.{chars}
 use Rattle.chars.proofs.Good.{good_bytes_lem}
 use Rattle.items.specs.Meaning.{Text, none, source, decoded}
-use Rattle.items.specs.Items.{Item, items, kept, most_open, depth_after, depth_past, record_words, own_words, record_of, memory_of}
+use Rattle.items.specs.Items.{Item, items, most_open, depth_after, depth_past, record_words, own_words, record_of, memory_of}
 use Rattle.items.specs.Whole.{served, Call, in_report, items_in, read_of}
 use Rattle.items.proofs.Order.{items_count}
 use Rattle.items.proofs.Skipped.{kept_count}

@@ -1,4 +1,5 @@
 -- Where a character's error 11 comes from: its digits stand after `x`, `u` or `u{`, and with a brace before another.
+use Rattle.std.proofs.Common.{Ok, Err, Result}
 use Prim.Native.Nat.{ℕ, suc, ◌+◌, ◌-◌, ◌<◌}
 use mathlib.Core.Path.{◌≡◌, refl, sym, ap, subst, ◌∙◌}
 use mathlib.Core.Bool.{true, false, ◌&&◌, ◌||◌}
@@ -13,12 +14,10 @@ use Rattle.laws.proofs.Choice.{by_bool, no_yes, if_all, if_is, and_true}
 use Rattle.chars.specs.Encode.{utf8, bytes_of, is_scalar, spelled}
 use Rattle.chars.specs.Utf8.{front, Front}
 use Rattle.chars.specs.Utf8 as Utf8
-use Rattle.digits.specs.declared.Hex.{Hex}
-use Rattle.digits.specs.declared.Hex.TheVariants as hex
-use Rattle.digits.specs.Hex.{hex_value}
+use Rattle.digits.specs.Hex.{hex_value, Hex, wrong}
 use Rattle.items.specs.Kinds as kind
-use Rattle.items.specs.declared.CharValue.{CharValue}
-use Rattle.items.specs.declared.CharValue.TheVariants.{Scalar, Wrong, WrongAt}
+use Rattle.items.specs.declared.CharError.{CharError}
+use Rattle.items.specs.declared.CharError.TheVariants.{Wrong, WrongAt}
 use Rattle.items.specs.Meaning.{lookup, lower, char_names, unnamed, before_delimiter, nameless, only_one, later, hex_named, spelled_out, character_of}
 use Rattle.items.specs.Readers.{last_is, scalar_of}
 use Rattle.items_errors.specs.First.{OfCharacter, Stand, character}
@@ -35,13 +34,13 @@ pub record Named (t : List ℕ) (d q : ℕ) : Type 0 where
   pub stop : Stops ys
   pub is : t ≡ x ++ k ∷ (ds ++ ys)
   pub anchor : (raw : List ℕ) → raw ≡ codes "#\\" ++ t → Stand raw ds (2 + (length x + 1))
-  pub fails : hex_value ds ≡ hex.Wrong d p
+  pub fails : hex_value ds ≡ wrong d p
   pub place : q ≡ length x + 1 + p
 
-abbrev pub Of : List ℕ → CharValue → Type 0
-Of t (Scalar c) = Unit {0}
-Of t (Wrong n d) = (n ≡ kind.InvalidHexEscapeLiteral → ⊥)
-Of t (WrongAt n d q) = (n ≡ kind.InvalidHexEscapeLiteral → Named t d q)
+abbrev pub Of : List ℕ → Result ℕ CharError → Type 0
+Of t (Ok c) = Unit {0}
+Of t (Err (Wrong n d)) = (n ≡ kind.InvalidHexEscapeLiteral → ⊥)
+Of t (Err (WrongAt n d q)) = (n ≡ kind.InvalidHexEscapeLiteral → Named t d q)
 
 -- digits ds after x and k
 of_digits : (t x : List ℕ) (k : ℕ) (ds ys : List ℕ) → k < 0x80 → Stops ys → t ≡ x ++ k ∷ (ds ++ ys)
@@ -50,9 +49,9 @@ of_digits : (t x : List ℕ) (k : ℕ) (ds ys : List ℕ) → k < 0x80 → Stops
     → (h : Hex) → hex_value ds ≡ h
     → Of t (later n (scalar_of h))
 unfolding scalar_of
-of_digits t x k ds ys ascii stop is anchor n e (hex.Value v) f = if_all (λ (c : CharValue). Of t (later n c)) (is_scalar v) tt (λ z. omega arith)
-of_digits t x k ds ys ascii stop is anchor n e (hex.Wrong d p) f =
-    λ z. record { x = x; k = k; ds = ds; ys = ys; p = p; ascii = ascii; stop = stop; is = is; anchor = anchor; fails = f; place = omega arith }
+of_digits t x k ds ys ascii stop is anchor n e (Ok v) f = if_all (λ (c : Result ℕ CharError). Of t (later n c)) (is_scalar v) tt (λ z. omega arith)
+of_digits t x k ds ys ascii stop is anchor n e (Err w) f =
+    λ z. record { x = x; k = k; ds = ds; ys = ys; p = w.place; ascii = ascii; stop = stop; is = is; anchor = anchor; fails = f; place = omega arith }
 
 of_nameless : (t : List ℕ) → Of t (nameless true t)
 unfolding nameless

@@ -1,4 +1,5 @@
 -- What the digit reader refuses, in the digits' characters and bytes: the character that is no digit, and the digit that is one too many.
+use Rattle.std.proofs.Common.{Ok, Err}
 use Prim.Native.Nat.{ℕ, ◌+◌, ◌*◌, ◌^◌, ◌≤◌, ◌<◌}
 use mathlib.Core.Path.{◌≡◌, refl, sym, ap, subst, ◌∙◌}
 use mathlib.Core.Bool.{true, false}
@@ -13,10 +14,9 @@ use Rattle.laws.specs.Texts.{starts}
 use Rattle.laws.proofs.Choice.{by_bool, if_all, within_is, impossible}
 use Rattle.chars.specs.Encode.{utf8, bytes_of, is_scalar}
 use Rattle.chars.proofs.Bytes.{bytes_append}
-use Rattle.digits.specs.declared.Hex.{Hex}
-use Rattle.digits.specs.declared.Hex.TheVariants.{Value, Wrong}
 use Rattle.digits.specs.Digits.{digit_of, value}
-use Rattle.digits.specs.Hex.{hex_digits, hex_after_plus, hex_value, empty, bad_digit, overflow}
+use Rattle.digits.proofs.HexDigits.{same_wrong}
+use Rattle.digits.specs.Hex.{hex_digits, hex_after_plus, hex_value, empty, bad_digit, overflow, Hex, wrong}
 use Rattle.items.proofs.Every.{Every}
 use Rattle.items_coverage.proofs.Bytes.{bytes_some, Spelt, low, high, spelt}
 use Rattle.items_errors.specs.Failing.{IsDigit}
@@ -55,7 +55,7 @@ pub record Bad (hs : List ℕ) (q v p : ℕ) : Type 0 where
   pub fits : value 16 v good < 2 ^ 32
   pub wrong : 16 ≤ digit_of c
 
-pub bad_digits : (hs : List ℕ) (q v p : ℕ) → v < 2 ^ 32 → hex_digits q v (bytes_of hs) ≡ Wrong bad_digit p → Bad hs q v p
+pub bad_digits : (hs : List ℕ) (q v p : ℕ) → v < 2 ^ 32 → hex_digits q v (bytes_of hs) ≡ wrong bad_digit p → Bad hs q v p
 unfolding hex_digits bytes_of value
 bad_digits [] q v p small e = impossible cc
 bad_digits (c ∷ hs) q v p small e = go (λ n l f. bad_digits hs (q + 1) n p l f) (utf8 c) refl (spelt c) e
@@ -63,8 +63,8 @@ bad_digits (c ∷ hs) q v p small e = go (λ n l f. bad_digits hs (q + 1) n p l 
     here : q ≡ p → 16 ≤ digit_of c → Bad (c ∷ hs) q v p
     here z w = record { good = []; c = c; after = hs; is = refl; plain = refl; place = omega arith; digits = tt; fits = small; wrong = w }
 
-    go : ((n : ℕ) → n < 2 ^ 32 → hex_digits (q + 1) n (bytes_of hs) ≡ Wrong bad_digit p → Bad hs (q + 1) n p)
-        → (w : List ℕ) → w ≡ utf8 c → Spelt c w → hex_digits q v (w ++ bytes_of hs) ≡ Wrong bad_digit p → Bad (c ∷ hs) q v p
+    go : ((n : ℕ) → n < 2 ^ 32 → hex_digits (q + 1) n (bytes_of hs) ≡ wrong bad_digit p → Bad hs (q + 1) n p)
+        → (w : List ℕ) → w ≡ utf8 c → Spelt c w → hex_digits q v (w ++ bytes_of hs) ≡ wrong bad_digit p → Bad (c ∷ hs) q v p
     go on w f (low h) e = by_bool (ltb (digit_of c) 16)
         (λ g. by_bool (ltb (v * 16 + digit_of c) (2 ^ 32))
         (λ k. let r = on (v * 16 + digit_of c) (ltb-true _ _ k) (rw (g, k, hex_digits) at e) in
@@ -79,12 +79,12 @@ bad_digits (c ∷ hs) q v p small e = go (λ n l f. bad_digits hs (q + 1) n p l 
           fits = r.fits;
           wrong = r.wrong;
         })
-        (λ k. let t : Wrong overflow q ≡ Wrong bad_digit p = rw (g, k, hex_digits) at e in let z : ◌≡◌ {A = ℕ} 3 2 = cc in absurd (omega arith)))
-        (λ g. let t : Wrong bad_digit q ≡ Wrong bad_digit p = rw (g, hex_digits) at e in let z : q ≡ p = cc in here z (ltb-false _ _ g))
+        (λ k. let t : wrong overflow q ≡ wrong bad_digit p = rw (g, k, hex_digits) at e in let z : ◌≡◌ {A = ℕ} 3 2 = (same_wrong overflow bad_digit q p t).0 in absurd (omega arith)))
+        (λ g. let t : wrong bad_digit q ≡ wrong bad_digit p = rw (g, hex_digits) at e in let z : q ≡ p = (same_wrong bad_digit bad_digit q p t).1 in here z (ltb-false _ _ g))
     go on w f (high x u g h) e =
         let no : ltb (digit_of x) 16 ≡ false = not_digit (high_none x h.0) in
-        let t : Wrong bad_digit q ≡ Wrong bad_digit p = rw (no, hex_digits) at e in
-        let z : q ≡ p = cc in here z (high_none c g)
+        let t : wrong bad_digit q ≡ wrong bad_digit p = rw (no, hex_digits) at e in
+        let z : q ≡ p = (same_wrong bad_digit bad_digit q p t).1 in here z (high_none c g)
       where
         not_digit : {n : ℕ} → 16 ≤ n → ltb n 16 ≡ false
         not_digit {n} h = by_bool (ltb n 16) (λ e. absurd (omega (arith, ltb-true n 16 e))) (λ e. e)
@@ -102,7 +102,7 @@ pub record Over (s : List ℕ) (q v p : ℕ) : Type 0 where
   pub fits : value 16 v ds < 2 ^ 32
   pub large : 2 ^ 32 ≤ value 16 v (ds ++ c ∷ [])
 
-pub over_digits : (s : List ℕ) (q v p : ℕ) → v < 2 ^ 32 → hex_digits q v s ≡ Wrong overflow p → Over s q v p
+pub over_digits : (s : List ℕ) (q v p : ℕ) → v < 2 ^ 32 → hex_digits q v s ≡ wrong overflow p → Over s q v p
 unfolding hex_digits value
 over_digits [] q v p h e = impossible cc
 over_digits (c ∷ s) q v p h e = by_bool (ltb (digit_of c) 16)
@@ -119,10 +119,10 @@ over_digits (c ∷ s) q v p h e = by_bool (ltb (digit_of c) 16)
       fits = r.fits;
       large = r.large;
     })
-    (λ k. let t : Wrong overflow q ≡ Wrong overflow p = rw (g, k, hex_digits) at e in
-    let z : q ≡ p = cc in
+    (λ k. let t : wrong overflow q ≡ wrong overflow p = rw (g, k, hex_digits) at e in
+    let z : q ≡ p = (same_wrong overflow overflow q p t).1 in
     record { ds = []; c = c; after = s; is = refl; place = omega arith; digits = tt; digit = ltb-true _ _ g; fits = h; large = ltb-false _ _ k }))
-    (λ g. let t : Wrong bad_digit q ≡ Wrong overflow p = rw (g, hex_digits) at e in let z : ◌≡◌ {A = ℕ} 2 3 = cc in absurd (omega arith))
+    (λ g. let t : wrong bad_digit q ≡ wrong overflow p = rw (g, hex_digits) at e in let z : ◌≡◌ {A = ℕ} 2 3 = (same_wrong bad_digit overflow q p t).0 in absurd (omega arith))
 
 -- ---- all of the digits, one plus before them or none
 
@@ -141,8 +141,8 @@ module _ (b : ℕ) where
 
 -- an error's detail is one of three
 abbrev pub Known : Hex → Type 0
-Known (Value v) = Unit {0}
-Known (Wrong d p) = (d ≡ empty) ⊎ ((d ≡ bad_digit) ⊎ (d ≡ overflow))
+Known (Ok v) = Unit {0}
+Known (Err w) = (w.detail ≡ empty) ⊎ ((w.detail ≡ bad_digit) ⊎ (w.detail ≡ overflow))
 
 known_digits : (q v : ℕ) (s : List ℕ) → Known (hex_digits q v s)
 unfolding hex_digits
@@ -160,8 +160,8 @@ known (c ∷ d ∷ s) = if_all Known (eqb c (code "+")) (known_digits 1 0 (d ∷
 
 -- only no digits at all are empty
 abbrev NotEmpty : Hex → Type 0
-NotEmpty (Value v) = Unit {0}
-NotEmpty (Wrong d p) = (d ≡ empty → ⊥)
+NotEmpty (Ok v) = Unit {0}
+NotEmpty (Err w) = (w.detail ≡ empty → ⊥)
 
 digits_not_empty : (q v : ℕ) (s : List ℕ) → NotEmpty (hex_digits q v s)
 unfolding hex_digits
@@ -176,12 +176,12 @@ unfolding hex_value hex_after_plus
 some_not_empty c [] = if_all NotEmpty (eqb c (code "+")) (λ e. omega arith) (digits_not_empty 0 0 (c ∷ []))
 some_not_empty c (d ∷ s) = if_all NotEmpty (eqb c (code "+")) (digits_not_empty 1 0 (d ∷ s)) (digits_not_empty 0 0 (c ∷ d ∷ s))
 
-pub empty_value : (s : List ℕ) (p : ℕ) → hex_value s ≡ Wrong empty p → p ≡ 0
+pub empty_value : (s : List ℕ) (p : ℕ) → hex_value s ≡ wrong empty p → p ≡ 0
 unfolding hex_value
-empty_value [] p e = let z : p ≡ 0 = cc in z
+empty_value [] p e = let z : p ≡ 0 = sym (same_wrong empty empty 0 p e).1 in z
 empty_value (c ∷ s) p e = absurd (subst NotEmpty e (some_not_empty c s) refl)
 
-pub empty_none : (s : List ℕ) (p : ℕ) → hex_value s ≡ Wrong empty p → s ≡ []
+pub empty_none : (s : List ℕ) (p : ℕ) → hex_value s ≡ wrong empty p → s ≡ []
 empty_none [] p e = refl
 empty_none (c ∷ s) p e = absurd (subst NotEmpty e (some_not_empty c s) refl)
 
@@ -199,19 +199,19 @@ pub record Signed (hs : List ℕ) (p : ℕ) : Type 0 where
   pub taken : plus (bytes_of hs) ≡ length sign
   pub bad : Bad rest (length sign) 0 p
 
-bad_value : (hs : List ℕ) (p : ℕ) → hex_value (bytes_of hs) ≡ Wrong bad_digit p → Signed hs p
+bad_value : (hs : List ℕ) (p : ℕ) → hex_value (bytes_of hs) ≡ wrong bad_digit p → Signed hs p
 unfolding hex_value bytes_of hex_after_plus value
-bad_value [] p e = let z : ◌≡◌ {A = ℕ} 1 2 = cc in absurd (omega arith)
+bad_value [] p e = let z : ◌≡◌ {A = ℕ} 1 2 = (same_wrong empty bad_digit 0 p e).0 in absurd (omega arith)
 bad_value (c ∷ hs) p e = go (utf8 c) refl (spelt c) e
   where
     unsigned : plus (bytes_of (c ∷ hs)) ≡ 0 → Bad (c ∷ hs) 0 0 p → Signed (c ∷ hs) p
     unsigned z b = record { sign = []; rest = c ∷ hs; is = refl; plain = refl; taken = z; bad = b }
 
     -- after a plus
-    signed : (l : List ℕ) → l ≡ hs → utf8 c ≡ c ∷ [] → c ≡ code "+" → hex_after_plus (bytes_of l) ≡ Wrong bad_digit p → Signed (c ∷ hs) p
+    signed : (l : List ℕ) → l ≡ hs → utf8 c ≡ c ∷ [] → c ≡ code "+" → hex_after_plus (bytes_of l) ≡ wrong bad_digit p → Signed (c ∷ hs) p
     signed [] g f z e =
-        let t : Wrong bad_digit 0 ≡ Wrong bad_digit p = e in
-        let y : 0 ≡ p = cc in
+        let t : wrong bad_digit 0 ≡ wrong bad_digit p = e in
+        let y : 0 ≡ p = (same_wrong bad_digit bad_digit 0 p t).1 in
         let lone : bytes_of (c ∷ hs) ≡ c ∷ [] = ap (λ (m : List ℕ). m ++ bytes_of hs) f ∙ ap (λ (m : List ℕ). c ∷ bytes_of m) (sym g) in
         unsigned (ap plus lone ∙ plus_lone c)
         (record {
@@ -237,7 +237,7 @@ bad_value (c ∷ hs) p e = go (utf8 c) refl (spelt c) e
           bad = r;
         }
 
-    go : (w : List ℕ) → w ≡ utf8 c → Spelt c w → hex_value (w ++ bytes_of hs) ≡ Wrong bad_digit p → Signed (c ∷ hs) p
+    go : (w : List ℕ) → w ≡ utf8 c → Spelt c w → hex_value (w ++ bytes_of hs) ≡ wrong bad_digit p → Signed (c ∷ hs) p
     go w f (low h) e = by_bool (eqb c (code "+"))
         (λ g. signed hs refl (sym f) (eqb-true c (code "+") g) (rw (g, hex_value) at e))
         (λ g. unsigned (ap (λ (m : List ℕ). plus (m ++ bytes_of hs)) (sym f) ∙ plus_none c (bytes_of hs) g)
@@ -261,7 +261,7 @@ pub record BadAt (ds : List ℕ) (p : ℕ) : Type 0 where
   pub scalar : is_scalar c ≡ true
   pub wrong : 16 ≤ digit_of c
 
-pub bad_at : (hs : List ℕ) (p : ℕ) → Every (λ (c : ℕ). is_scalar c ≡ true) hs → hex_value (bytes_of hs) ≡ Wrong bad_digit p → BadAt (bytes_of hs) p
+pub bad_at : (hs : List ℕ) (p : ℕ) → Every (λ (c : ℕ). is_scalar c ≡ true) hs → hex_value (bytes_of hs) ≡ wrong bad_digit p → BadAt (bytes_of hs) p
 unfolding bytes_of
 bad_at hs p chars e =
     let m : Signed hs p = bad_value hs p e in
@@ -292,15 +292,15 @@ pub record Many (s : List ℕ) (p : ℕ) : Type 0 where
   pub taken : plus s ≡ length sign
   pub over : Over rest (length sign) 0 p
 
-pub over_value : (s : List ℕ) (p : ℕ) → hex_value s ≡ Wrong overflow p → Many s p
+pub over_value : (s : List ℕ) (p : ℕ) → hex_value s ≡ wrong overflow p → Many s p
 unfolding hex_value hex_after_plus
-over_value [] p e = let z : ◌≡◌ {A = ℕ} 1 3 = cc in absurd (omega arith)
+over_value [] p e = let z : ◌≡◌ {A = ℕ} 1 3 = (same_wrong empty overflow 0 p e).0 in absurd (omega arith)
 over_value (c ∷ s) p e = by_bool (eqb c (code "+"))
     (λ g. signed s g (rw (g, hex_value) at e))
     (λ g. record { sign = []; rest = c ∷ s; is = refl; taken = plus_none c s g; over = over_digits (c ∷ s) 0 0 p (omega arith) (rw (g, hex_value) at e) })
   where
-    signed : (l : List ℕ) → eqb c (code "+") ≡ true → hex_after_plus l ≡ Wrong overflow p → Many (c ∷ l) p
-    signed [] g e = let z : ◌≡◌ {A = ℕ} 2 3 = cc in absurd (omega arith)
+    signed : (l : List ℕ) → eqb c (code "+") ≡ true → hex_after_plus l ≡ wrong overflow p → Many (c ∷ l) p
+    signed [] g e = let z : ◌≡◌ {A = ℕ} 2 3 = (same_wrong bad_digit overflow 0 p e).0 in absurd (omega arith)
     signed (b ∷ l) g e = record {
       sign = c ∷ [];
       rest = b ∷ l;

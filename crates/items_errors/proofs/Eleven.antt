@@ -1,5 +1,7 @@
 -- What is told of an error 11 where its digits stand is told of every item of error 11 of a text in report mode: no other outcome, and no
 -- other character, has that error.
+use Rattle.std.proofs.Common.{Ok, Err, Result}
+use Rattle.digits.specs.Hex.{Hex}
 use Prim.Native.Nat.{ℕ, ◌+◌, ◌≤◌, ◌<◌}
 use mathlib.Core.Path.{◌≡◌, refl, sym, ap, subst, ◌∙◌}
 use mathlib.Core.Bool.{true, false, ◌&&◌}
@@ -11,18 +13,15 @@ use native.Mathlib.Omega.{arith}
 use Rattle.laws.specs.Quoted.{code, codes}
 use Rattle.laws.specs.Texts.{begins}
 use Rattle.laws.proofs.Choice.{if_all}
-use Rattle.chars.specs.Encode.{utf8, bytes_of, is_scalar, spelled}
+use Rattle.chars.specs.Encode.{bytes_of, is_scalar, spelled}
 use Rattle.chars.proofs.Bytes.{bytes_append}
-use Rattle.numbers.specs.Grammar.{parse_number}
-use Rattle.numbers.specs.declared.Parsed.{Parsed}
-use Rattle.numbers.specs.declared.Parsed.TheVariants as parsed
-use Rattle.digits.specs.declared.Hex.{Hex}
-use Rattle.digits.specs.declared.Hex.TheVariants as hex
+use Rattle.numbers.specs.Grammar.{parse_number, Parsed}
+use Rattle.numbers.specs.declared.ParseError.TheVariants as parsed
 use Rattle.items.specs.Kinds as kind
 use Rattle.items.specs.declared.Outcome.{Outcome}
 use Rattle.items.specs.declared.Outcome.TheVariants.{Token, Str, HereStr, Word, Run, Lined, Keyword, Character, Error, ErrorAt}
-use Rattle.items.specs.declared.CharValue.{CharValue}
-use Rattle.items.specs.declared.CharValue.TheVariants.{Scalar, Wrong, WrongAt}
+use Rattle.items.specs.declared.CharError.{CharError}
+use Rattle.items.specs.declared.CharError.TheVariants.{Wrong, WrongAt}
 use Rattle.items.specs.Items.{Place, range, unset, Item, character_sets, range_after, items_of, extent_items, items}
 use Rattle.items.specs.Meaning.{Text, none, source, Meaning, one, word_kind, word_means, run_means, string_text, lined_text, here_text}
 use Rattle.items.specs.Meaning.{character_of, char_inside, character_means, meaning_of}
@@ -35,7 +34,7 @@ use Rattle.items.proofs.Splits.{read_at}
 use Rattle.items_coverage.proofs.Extents.{Taken, taken}
 use Rattle.items_coverage.proofs.Located.{items_there, every_item}
 use Rattle.items_errors.specs.First.{Stand, escape}
-use Rattle.items_errors.proofs.Phases.{Stops, Quoted, Digits, Told}
+use Rattle.items_errors.proofs.Phases.{Quoted, Digits, Told}
 use Rattle.items_errors.proofs.Steps.{read_told}
 use Rattle.items_errors.proofs.Characters.{Named, Of, of_character, begins_is}
 use Rattle.items_errors.proofs.Marked.{not_marked}
@@ -77,9 +76,9 @@ module _ (F : ℕ → ℕ → ℕ → ℕ → ℕ → Type 0) (s : ℕ) (i : SoF
 
   run_there : (set : Place) (p : Parsed) → There set (run_means p s i.at i.bytes)
   unfolding run_means
-  run_there set (parsed.Is p) = other set kind.Number 0 none (λ e. omega arith)
-  run_there set parsed.NoNumber = word_there set
-  run_there set parsed.ZeroDenominator = other set (kind.first_error + kind.ZeroDenominator) 0 none (λ e. omega arith)
+  run_there set (Ok p) = other set kind.Number 0 none (λ e. omega arith)
+  run_there set (Err parsed.NoNumber) = word_there set
+  run_there set (Err parsed.ZeroDenominator) = other set (kind.first_error + kind.ZeroDenominator) 0 none (λ e. omega arith)
 
   -- an error that sets a range of its own
   failing_there : (n d a b : ℕ) → (n ≡ kind.InvalidHexEscapeLiteral → FailingDigits s i.bytes d a b) → There (range a b) (one (kind.first_error + n) d none)
@@ -126,11 +125,11 @@ module _ (F : ℕ → ℕ → ℕ → ℕ → ℕ → Type 0) (s : ℕ) (i : SoF
         subst (Stand raw g.ds) (omega arith) (g.anchor raw (begins_is raw named)),
       )
 
-  character_there : (v : CharValue) → begins (spelled "#\\") i.bytes ≡ true → Of (char_inside i.bytes) v
+  character_there : (v : Result ℕ CharError) → begins (spelled "#\\") i.bytes ≡ true → Of (char_inside i.bytes) v
       → There (character_sets true v unset s i) (character_means v)
-  character_there (Scalar c) b h = other unset kind.CharacterLiteral c none (λ e. omega arith)
-  character_there (Wrong n d) b h = other (range s i.at) (kind.first_error + n) d none (λ e. h (omega arith))
-  character_there (WrongAt n d q) b h = failing_there n d (s + 2 + q) _ (λ m. named_digits d q b (h m))
+  character_there (Ok c) b h = other unset kind.CharacterLiteral c none (λ e. omega arith)
+  character_there (Err (Wrong n d)) b h = other (range s i.at) (kind.first_error + n) d none (λ e. h (omega arith))
+  character_there (Err (WrongAt n d q)) b h = failing_there n d (s + 2 + q) _ (λ m. named_digits d q b (h m))
 
   there : (o : Outcome) → Told s i.bytes o → ((n d a b : ℕ) → o ≡ ErrorAt n d a b → begins (codes "#\\") i.bytes ≡ false)
       → There (range_after true unset s o i) (meaning_of true o s i.at i.bytes)

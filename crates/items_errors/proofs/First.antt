@@ -1,10 +1,10 @@
 -- In report mode every record of error 11 that the whole-text call writes points at the first of its digits that fails (specs/First): where
 -- the digits stand is known from their reading (`Eleven`), and the digit reader stops at the first that fails (`Digits`).
-use Prim.Native.Nat.{ℕ, ◌+◌, ◌-◌, ◌≤◌}
+use Prim.Native.Nat.{ℕ, ◌+◌, ◌-◌}
 use mathlib.Core.Path.{◌≡◌, refl, sym, ap, subst, ◌∙◌}
 use mathlib.Core.Bool.{Bool, true}
 use mathlib.Core.Logic.{inl, inr}
-use mathlib.Core.List.{List, [], ◌∷◌, ◌++◌, append_assoc}
+use mathlib.Core.List.{List, ◌∷◌, ◌++◌, append_assoc}
 use lib.ListN.{length, drop, take, length-append}
 use lib.Seq.{drop-append_seam, take_at}
 use native.Mathlib.Omega.{arith}
@@ -12,15 +12,12 @@ use Rattle.chars.specs.Encode.{utf8, width, bytes_of}
 use Rattle.chars.specs.Utf8.{chars}
 use Rattle.chars.proofs.Good.{good_bytes_lem}
 use Rattle.chars.proofs.Round.{back, one_read}
-use Rattle.digits.specs.declared.Hex.TheVariants as hex
-use Rattle.digits.specs.Hex.{hex_value, empty, bad_digit, overflow}
-use Rattle.items.specs.Items.{Item, items, kept}
+use Rattle.digits.specs.Hex.{hex_value, empty, bad_digit, overflow, wrong}
+use Rattle.items.specs.Items.{items}
 use Rattle.items.specs.Readers.{past_failing}
 use Rattle.items.specs.Whole.{served, read_of}
 use Rattle.items.proofs.Every.{Every}
 use Rattle.items_coverage.specs.Records.{rows_in}
-use Rattle.items_coverage.proofs.Calls.{Rows, served_rows}
-use Rattle.items_coverage.proofs.Records.{rows_of}
 use Rattle.items_errors.specs.First.{plus, Stand, FailAt, FirstFails, PointsAtFirst}
 use Rattle.items_errors.specs.First as first
 use Rattle.items_errors.proofs.Digits.{digit_small, BadAt, Over, Many, Known, known, empty_none, empty_value, over_value}
@@ -41,7 +38,7 @@ module _ (ds zs : List ℕ) (n p : ℕ) where
   past_plus : (sign t : List ℕ) → ds ≡ sign ++ t → plus ds ≡ length sign → drop (plus ds) ds ≡ t
   past_plus sign t is taken = ap (λ (k : ℕ). drop k ds) taken ∙ ap (drop (length sign)) is ∙ drop-append_seam sign t
 
-  no_digits : hex_value ds ≡ hex.Wrong empty p → Failing ds zs n empty p
+  no_digits : hex_value ds ≡ wrong empty p → Failing ds zs n empty p
   unfolding past_failing
   no_digits e =
       let z : p ≡ 0 = empty_value ds p e in
@@ -51,7 +48,7 @@ module _ (ds zs : List ℕ) (n p : ℕ) where
         past = omega arith;
       }
 
-  bad_digit_holds : Whole ds → hex_value ds ≡ hex.Wrong bad_digit p → Failing ds zs n bad_digit p
+  bad_digit_holds : Whole ds → hex_value ds ≡ wrong bad_digit p → Failing ds zs n bad_digit p
   unfolding past_failing
   bad_digit_holds w e =
       let r : BadAt ds p = whole_bad ds p w e in
@@ -69,7 +66,7 @@ module _ (ds zs : List ℕ) (n p : ℕ) where
         past = ap (past_failing bad_digit (n + p)) all ∙ (rw (back r.c (r.after ++ zs) r.scalar) (omega arith));
       }
 
-  one_too_many : hex_value ds ≡ hex.Wrong overflow p → Failing ds zs n overflow p
+  one_too_many : hex_value ds ≡ wrong overflow p → Failing ds zs n overflow p
   unfolding past_failing
   one_too_many e =
       let m : Many ds p = over_value ds p e in
@@ -89,10 +86,10 @@ module _ (ds zs : List ℕ) (n p : ℕ) where
             ∙ (rw (one_read r.c (r.after ++ zs) (digit_small r.c r.digit)) (omega arith));
       }
 
-  failing : (d : ℕ) → Known (hex.Wrong d p) → Whole ds → hex_value ds ≡ hex.Wrong d p → Failing ds zs n d p
-  failing d (inl f) w e = subst (λ (k : ℕ). Failing ds zs n k p) (sym f) (no_digits (e ∙ ap (λ (k : ℕ). hex.Wrong k p) f))
-  failing d (inr (inl f)) w e = subst (λ (k : ℕ). Failing ds zs n k p) (sym f) (bad_digit_holds w (e ∙ ap (λ (k : ℕ). hex.Wrong k p) f))
-  failing d (inr (inr f)) w e = subst (λ (k : ℕ). Failing ds zs n k p) (sym f) (one_too_many (e ∙ ap (λ (k : ℕ). hex.Wrong k p) f))
+  failing : (d : ℕ) → Known (wrong d p) → Whole ds → hex_value ds ≡ wrong d p → Failing ds zs n d p
+  failing d (inl f) w e = subst (λ (k : ℕ). Failing ds zs n k p) (sym f) (no_digits (e ∙ ap (λ (k : ℕ). wrong k p) f))
+  failing d (inr (inl f)) w e = subst (λ (k : ℕ). Failing ds zs n k p) (sym f) (bad_digit_holds w (e ∙ ap (λ (k : ℕ). wrong k p) f))
+  failing d (inr (inr f)) w e = subst (λ (k : ℕ). Failing ds zs n k p) (sym f) (one_too_many (e ∙ ap (λ (k : ℕ). wrong k p) f))
 
 -- ---- of an extent, of an item, of a record
 

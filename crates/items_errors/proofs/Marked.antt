@@ -1,7 +1,7 @@
 -- What begins with `#\` is a character, or error 7: no such item sets a range of its own as an escape in quotes does.
-use Prim.Native.Nat.{ℕ, ◌<◌}
+use Prim.Native.Nat.{ℕ}
 use mathlib.Core.Path.{◌≡◌, refl, sym, ap, subst, ◌∙◌}
-use mathlib.Core.Bool.{Bool, true, false, ◌&&◌}
+use mathlib.Core.Bool.{Bool, true, false}
 use mathlib.Core.List.{List, [], ◌∷◌, ◌++◌}
 use lib.ListN.{length}
 use lib.Dec.{eqb, leb}
@@ -9,7 +9,7 @@ use native.Mathlib.Omega.{arith}
 use borrow.Author.Tests.{eqb-true}
 use Rattle.laws.specs.Quoted.{code, codes}
 use Rattle.laws.specs.Texts.{begins, same}
-use Rattle.laws.proofs.Choice.{by_bool, no_yes, yes_no, if_all, if_is, and_true}
+use Rattle.laws.proofs.Choice.{by_bool, no_yes, if_all, if_is, and_true}
 use Rattle.chars.specs.Encode.{utf8, bytes_of, spelled}
 use Rattle.items.specs.Classes.{first_of, after_hash, in_hash, InHash, skips_two, tick, commas, stops_hash, stays_hash}
 use Rattle.items.specs.declared.Outcome.{Outcome}

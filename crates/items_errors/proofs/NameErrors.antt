@@ -1,11 +1,12 @@
 -- Errors 13 and 10 of records in report mode (specs/Delimited), and that plain mode has no 13: only a character has either error, and which
 -- of them, and where it points, is known from the bytes after `#\` (`Names`).
+use Rattle.std.proofs.Common.{Ok, Err, Result}
 use Prim.Native.Nat.{ℕ, ◌+◌, ◌-◌, ◌<◌}
 use mathlib.Core.Path.{◌≡◌, refl, sym, ap, subst, ◌∙◌}
 use mathlib.Core.Bool.{Bool, true, false, ◌&&◌}
 use mathlib.Core.List.{List, [], ◌∷◌, ◌++◌}
 use mathlib.Core.Logic.{inl, inr}
-use lib.ListN.{length, get_or, drop, take}
+use lib.ListN.{length, drop, take}
 use lib.Seq.{take_at}
 use lib.Dec.{T, eqb, ltb}
 use native.Mathlib.Omega.{arith}
@@ -17,15 +18,13 @@ use Rattle.chars.specs.Encode.{utf8, bytes_of, spelled}
 use Rattle.chars.specs.Utf8.{chars}
 use Rattle.chars.proofs.Bytes.{bytes_append}
 use Rattle.chars.proofs.Good.{good_bytes_lem}
-use Rattle.chars.proofs.Round.{one_read}
-use Rattle.numbers.specs.Grammar.{parse_number}
-use Rattle.numbers.specs.declared.Parsed.{Parsed}
-use Rattle.numbers.specs.declared.Parsed.TheVariants as parsed
+use Rattle.numbers.specs.Grammar.{parse_number, Parsed}
+use Rattle.numbers.specs.declared.ParseError.TheVariants as parsed
 use Rattle.items.specs.Kinds as kind
 use Rattle.items.specs.declared.Outcome.{Outcome}
 use Rattle.items.specs.declared.Outcome.TheVariants.{Token, Str, HereStr, Word, Run, Lined, Keyword, Character, Error, ErrorAt}
-use Rattle.items.specs.declared.CharValue.{CharValue}
-use Rattle.items.specs.declared.CharValue.TheVariants.{Scalar, Wrong, WrongAt}
+use Rattle.items.specs.declared.CharError.{CharError}
+use Rattle.items.specs.declared.CharError.TheVariants.{Wrong, WrongAt}
 use Rattle.items.specs.Items.{Place, range, unset, place_of, Item, character_sets, range_after, item_of, items_of, extent_items, items, record_of}
 use Rattle.items.specs.Meaning.{Text, none, source, Meaning, means, one, word_kind, word_means, run_means, string_text, lined_text, here_text}
 use Rattle.items.specs.Meaning.{character_of, char_inside, character_means, meaning_of}
@@ -42,10 +41,9 @@ use Rattle.items_coverage.proofs.Located.{items_there, every_item}
 use Rattle.items_errors.specs.Delimited.{Delimited, Undelimited, PointsAtDelimiter, NameError}
 use Rattle.items_errors.proofs.Phases.{Told}
 use Rattle.items_errors.proofs.Steps.{read_told}
-use Rattle.items_errors.proofs.Eleven.{IsChar}
 use Rattle.items_errors.proofs.Names.{delimited_there, undelimited_there, numbers, Numbers, plain_never}
 use Rattle.items_errors.proofs.Outcomes.{nameless, Outcomes, outcomes}
-use Rattle.items_errors.proofs.Rows.{every_scalar, read_every_row}
+use Rattle.items_errors.proofs.Rows.{read_every_row}
 
 abbrev pub ten : ℕ
 ten = kind.first_error + kind.InvalidCharName
@@ -88,9 +86,9 @@ module _ (P : Item → Type 0) (neither : (i : Item) → Neither i.kind → P i)
 
   run_there : (set : Place) (p : Parsed) → There set (run_means p s i.at i.bytes)
   unfolding run_means
-  run_there set (parsed.Is p) = other set kind.Number 0 none (good_kind _ (omega arith))
-  run_there set parsed.NoNumber = word_there set
-  run_there set parsed.ZeroDenominator = other set (kind.first_error + kind.ZeroDenominator) 0 none ((λ e. omega arith), (λ e. omega arith))
+  run_there set (Ok p) = other set kind.Number 0 none (good_kind _ (omega arith))
+  run_there set (Err parsed.NoNumber) = word_there set
+  run_there set (Err parsed.ZeroDenominator) = other set (kind.first_error + kind.ZeroDenominator) 0 none ((λ e. omega arith), (λ e. omega arith))
 
   pub there : (set : Place) (o : Outcome) → Outcomes o
       → (o ≡ Character → There set (character_means (character_of report (char_inside i.bytes))))
@@ -114,11 +112,11 @@ module _ (P : Item → Type 0) (neither : (i : Item) → Neither i.kind → P i)
 abbrev pub NotThirteen : Item → Type 0
 NotThirteen i = (i.kind ≡ thirteen → ⊥)
 
-plain_character : (set : Place) (s e : ℕ) (t : List ℕ) (v : CharValue) → character_of false t ≡ v → Numbers v → Every NotThirteen (items_of false set s e (character_means v))
-plain_character set s e t (Scalar c) f g = ((λ z. omega arith), tt)
-plain_character set s e t (Wrong n d) f g = ((λ z. g (omega arith)), tt)
-plain_character set s e t (WrongAt n d p) f g =
-    ((λ z. plain_never t d p (f ∙ ap (λ (m : ℕ). WrongAt m d p) (let y : n ≡ kind.InvalidCharDelimiter = omega arith in y))), tt)
+plain_character : (set : Place) (s e : ℕ) (t : List ℕ) (v : Result ℕ CharError) → character_of false t ≡ v → Numbers v → Every NotThirteen (items_of false set s e (character_means v))
+plain_character set s e t (Ok c) f g = ((λ z. omega arith), tt)
+plain_character set s e t (Err (Wrong n d)) f g = ((λ z. g (omega arith)), tt)
+plain_character set s e t (Err (WrongAt n d p)) f g =
+    ((λ z. plain_never t d p (f ∙ ap (λ (m : ℕ). Err (WrongAt m d p)) (let y : n ≡ kind.InvalidCharDelimiter = omega arith in y))), tt)
 
 -- in plain mode no item is error 13
 pub plain_thirteen : (cs : List ℕ) → Every NotThirteen (items false cs)
@@ -157,21 +155,21 @@ module _ (whole : List ℕ) (s : ℕ) (i : SoFar) (raw : take (i.at - s) (drop s
   inside : drop 2 (take (i.at - s) (drop s whole)) ≡ t
   inside = ap (drop 2) raw
 
-  report_character : (v : CharValue) → character_of true t ≡ v → Numbers v → Fails t v
+  report_character : (v : Result ℕ CharError) → character_of true t ≡ v → Numbers v → Fails t v
       → Every (Named whole) (items_of true (character_sets true v unset s i) s i.at (character_means v))
-  report_character (Scalar c) f g h =
+  report_character (Ok c) f g h =
       (neither_named whole (item_of true unset s i.at (means kind.CharacterLiteral c none)) (good_kind kind.CharacterLiteral (omega arith)), tt)
-  report_character (Wrong n d) f g h = (
+  report_character (Err (Wrong n d)) f g h = (
     (λ free depth. record {
       thirteen = λ e. absurd (g (omega arith));
-      ten = λ e. (named, subst Undelimited (sym inside) (undelimited_there t d (f ∙ ap (λ (m : ℕ). Wrong m d) (ten_is n e))));
+      ten = λ e. (named, subst Undelimited (sym inside) (undelimited_there t d (f ∙ ap (λ (m : ℕ). Err (Wrong m d)) (ten_is n e))));
     }),
     tt,
   )
     where
       ten_is : (n : ℕ) → kind.first_error + n ≡ ten → n ≡ kind.InvalidCharName
       ten_is n e = omega arith
-  report_character (WrongAt n d p) f g h = (
+  report_character (Err (WrongAt n d p)) f g h = (
     (λ free depth. record { thirteen = λ e. pointed free depth (thirteen_is n e) h; ten = λ e. absurd (g (omega arith)) }),
     tt,
   )
@@ -185,7 +183,7 @@ module _ (whole : List ℕ) (s : ℕ) (i : SoFar) (raw : take (i.at - s) (drop s
       b : ℕ
       b = past_failing d (s + 2 + p) (drop p t)
 
-      pointed : (free depth : ℕ) → n ≡ kind.InvalidCharDelimiter → Fails t (WrongAt n d p)
+      pointed : (free depth : ℕ) → n ≡ kind.InvalidCharDelimiter → Fails t (Err (WrongAt n d p))
           → PointsAtDelimiter whole (record_of free depth (item_of true (range a b) s i.at (means (kind.first_error + n) d none)))
       pointed free depth z (inl w) = absurd (omega arith)
       pointed free depth z (inr w) =
@@ -194,7 +192,7 @@ module _ (whole : List ℕ) (s : ℕ) (i : SoFar) (raw : take (i.at - s) (drop s
           record {
             name = named;
             p = p;
-            delimited = subst (λ (l : List ℕ). Delimited l p) (sym inside) (delimited_there t d p (f ∙ ap (λ (m : ℕ). WrongAt m d p) z));
+            delimited = subst (λ (l : List ℕ). Delimited l p) (sym inside) (delimited_there t d p (f ∙ ap (λ (m : ℕ). Err (WrongAt m d p)) z));
             from = ap (λ (q : Place). q.from) at;
             to = ap (λ (q : Place). q.to) at ∙ one ∙ ap (λ (q : Place). q.from + 1) (sym at);
           }

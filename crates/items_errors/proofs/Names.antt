@@ -1,4 +1,5 @@
 -- Error 13 exactly where 10 would stand and a delimiter stands after the name's first character.
+use Rattle.std.proofs.Common.{Ok, Err, Result}
 use Prim.Native.Nat.{ℕ, zero, suc, ◌-◌, ◌<◌}
 use mathlib.Core.Path.{◌≡◌, refl, sym, ap, subst}
 use mathlib.Core.Bool.{Bool, true, false, ◌&&◌, ◌||◌}
@@ -13,12 +14,10 @@ use Rattle.laws.proofs.Choice.{by_bool, if_all, impossible}
 use Rattle.chars.specs.Encode.{is_scalar}
 use Rattle.chars.specs.Utf8.{front, Front}
 use Rattle.chars.specs.Utf8 as Utf8
-use Rattle.digits.specs.declared.Hex.{Hex}
-use Rattle.digits.specs.declared.Hex.TheVariants as hex
-use Rattle.digits.specs.Hex.{hex_value}
+use Rattle.digits.specs.Hex.{hex_value, Hex}
 use Rattle.items.specs.Kinds as kind
-use Rattle.items.specs.declared.CharValue.{CharValue}
-use Rattle.items.specs.declared.CharValue.TheVariants.{Scalar, Wrong, WrongAt}
+use Rattle.items.specs.declared.CharError.{CharError}
+use Rattle.items.specs.declared.CharError.TheVariants.{Wrong, WrongAt}
 use Rattle.items.specs.Meaning.{lookup, lower, char_names, unnamed, is_delimiter, before_delimiter, nameless, only_one, later, hex_named, spelled_out, character_of}
 use Rattle.items.specs.Readers.{first_is, last_is, scalar_of}
 use Rattle.items_errors.specs.Delimited.{Delimited, Undelimited, Ten, Thirteen}
@@ -76,19 +75,19 @@ place_is (c ∷ l) (suc n) d = ap suc (first_is_lem l n (omega (arith, d.inside)
 -- ---- the two modes part only on a name that is none
 
 -- neither 10 nor 13
-abbrev Apart : CharValue → Type 0
-Apart (Scalar c) = Unit {0}
-Apart (Wrong n d) = (n ≡ kind.InvalidCharName → ⊥)
-Apart (WrongAt n d p) = (n ≡ kind.InvalidCharDelimiter → ⊥)
+abbrev Apart : Result ℕ CharError → Type 0
+Apart (Ok c) = Unit {0}
+Apart (Err (Wrong n d)) = (n ≡ kind.InvalidCharName → ⊥)
+Apart (Err (WrongAt n d p)) = (n ≡ kind.InvalidCharDelimiter → ⊥)
 
-data Modes (t : List ℕ) : CharValue → CharValue → Type 0 where
-  same : (v : CharValue) → Apart v → Modes t v v
+data Modes (t : List ℕ) : Result ℕ CharError → Result ℕ CharError → Type 0 where
+  same : (v : Result ℕ CharError) → Apart v → Modes t v v
   none : Modes t (nameless true t) (nameless false t)
 
 apart_hex : (n : ℕ) (h : Hex) → Apart (later n (scalar_of h))
 unfolding scalar_of
-apart_hex n (hex.Value v) = if_all (λ (c : CharValue). Apart (later n c)) (is_scalar v) tt (λ e. omega arith)
-apart_hex n (hex.Wrong d p) = λ e. omega arith
+apart_hex n (Ok v) = if_all (λ (c : Result ℕ CharError). Apart (later n c)) (is_scalar v) tt (λ e. omega arith)
+apart_hex n (Err w) = λ e. omega arith
 
 apart_named : (t : List ℕ) → Apart (hex_named t)
 unfolding hex_named
@@ -98,7 +97,7 @@ apart_named t =
     (apart_hex 1 (hex_value (drop 1 t)))
 
 only_modes : (f : Front) (t : List ℕ) → Modes t (only_one true f t) (only_one false f t)
-only_modes (Utf8.char c n) t = by_bool (eqb n (length t)) (λ e. rw e (Modes.same (Scalar c) tt)) (λ e. rw e Modes.none)
+only_modes (Utf8.char c n) t = by_bool (eqb n (length t)) (λ e. rw e (Modes.same (Ok c) tt)) (λ e. rw e Modes.none)
 only_modes (Utf8.bad n) t = Modes.none
 only_modes Utf8.cut t = Modes.none
 only_modes Utf8.none t = Modes.none
@@ -109,12 +108,12 @@ modes t = by_bool (eqb (lookup char_names (map lower t) unnamed) unnamed)
     (λ e. rw e (by_bool ((first_is (code "u") t || first_is (code "x") t) && ltb 1 (length t))
     (λ f. rw f (Modes.same (hex_named t) (apart_named t)))
     (λ f. rw f (only_modes (front t) t))))
-    (λ e. rw e (Modes.same (Scalar (lookup char_names (map lower t) unnamed)) tt))
+    (λ e. rw e (Modes.same (Ok (lookup char_names (map lower t) unnamed)) tt))
 
 -- ---- the theorem, each way
 
-thirteen_from : (t : List ℕ) (p : ℕ) → Delimited t p → {v w : CharValue} → Modes t v w → w ≡ Wrong kind.InvalidCharName 0
-    → v ≡ WrongAt kind.InvalidCharDelimiter 0 p
+thirteen_from : (t : List ℕ) (p : ℕ) → Delimited t p → {v w : Result ℕ CharError} → Modes t v w → w ≡ Err (Wrong kind.InvalidCharName 0)
+    → v ≡ Err (WrongAt kind.InvalidCharDelimiter 0 p)
 unfolding nameless
 thirteen_from t p d (Modes.same v a) e = absurd (subst Apart e a refl)
 thirteen_from t p d Modes.none e = let n = place_is t p d in rw (n, lt-ltb p (length t) d.inside)
@@ -122,21 +121,21 @@ thirteen_from t p d Modes.none e = let n = place_is t p d in rw (n, lt-ltb p (le
 pub thirteen_if : (t : List ℕ) (p : ℕ) → Ten t → Delimited t p → Thirteen t p
 thirteen_if t p ten d = thirteen_from t p d (modes t) ten
 
-delimited_from : (t : List ℕ) (d p : ℕ) {v w : CharValue} → Modes t v w → v ≡ WrongAt kind.InvalidCharDelimiter d p
-    → (w ≡ Wrong kind.InvalidCharName 0) × Delimited t p
+delimited_from : (t : List ℕ) (d p : ℕ) {v w : Result ℕ CharError} → Modes t v w → v ≡ Err (WrongAt kind.InvalidCharDelimiter d p)
+    → (w ≡ Err (Wrong kind.InvalidCharName 0)) × Delimited t p
 unfolding nameless
 delimited_from t d p (Modes.same v a) e = absurd (subst Apart e a refl)
 delimited_from t d p Modes.none e =
     let n : ℕ = suc (before_delimiter (drop 1 t)) in
     by_bool (ltb n (length t))
-    (λ f. let g : WrongAt kind.InvalidCharDelimiter 0 n ≡ WrongAt kind.InvalidCharDelimiter d p = rw f at e in
+    (λ f. let g : Err (WrongAt kind.InvalidCharDelimiter 0 n) ≡ Err (WrongAt kind.InvalidCharDelimiter d p) = rw f at e in
     let z : n ≡ p = cc in
     (refl, found t p (sym z) (rw z at (ltb-true n (length t) f))))
-    (λ f. let g : Wrong kind.InvalidCharName 0 ≡ WrongAt kind.InvalidCharDelimiter d p = rw f at e in
+    (λ f. let g : Err (Wrong kind.InvalidCharName 0) ≡ Err (WrongAt kind.InvalidCharDelimiter d p) = rw f at e in
     impossible cc)
 
 -- with any detail
-pub delimited_there : (t : List ℕ) (d p : ℕ) → character_of true t ≡ WrongAt kind.InvalidCharDelimiter d p → Delimited t p
+pub delimited_there : (t : List ℕ) (d p : ℕ) → character_of true t ≡ Err (WrongAt kind.InvalidCharDelimiter d p) → Delimited t p
 delimited_there t d p e = (delimited_from t d p (modes t) e).1
 
 pub thirteen_only : (t : List ℕ) (p : ℕ) → Thirteen t p → Ten t × Delimited t p
@@ -149,29 +148,29 @@ none_after [] e j a b = absurd (omega arith)
 none_after (c ∷ l) e zero a b = absurd (omega arith)
 none_after (c ∷ l) e (suc j) a b = before_none l j (omega (arith, ltb-false (suc (before_delimiter l)) (length (c ∷ l)) e))
 
-undelimited_from : (t : List ℕ) (d : ℕ) {v w : CharValue} → Modes t v w → v ≡ Wrong kind.InvalidCharName d → Undelimited t
+undelimited_from : (t : List ℕ) (d : ℕ) {v w : Result ℕ CharError} → Modes t v w → v ≡ Err (Wrong kind.InvalidCharName d) → Undelimited t
 unfolding nameless
 undelimited_from t d (Modes.same v a) e = absurd (subst Apart e a refl)
 undelimited_from t d Modes.none e =
     let n : ℕ = suc (before_delimiter (drop 1 t)) in
     by_bool (ltb n (length t))
-    (λ f. let g : WrongAt kind.InvalidCharDelimiter 0 n ≡ Wrong kind.InvalidCharName d = rw f at e in
+    (λ f. let g : Err (WrongAt kind.InvalidCharDelimiter 0 n) ≡ Err (Wrong kind.InvalidCharName d) = rw f at e in
     impossible cc)
     (λ f. none_after t f)
 
-pub undelimited_there : (t : List ℕ) (d : ℕ) → character_of true t ≡ Wrong kind.InvalidCharName d → Undelimited t
+pub undelimited_there : (t : List ℕ) (d : ℕ) → character_of true t ≡ Err (Wrong kind.InvalidCharName d) → Undelimited t
 undelimited_there t d e = undelimited_from t d (modes t) e
 
 -- only a hex form or a name sets a place within the name; only 12, 9 and 10 none
-abbrev pub Numbers : CharValue → Type 0
-Numbers (Scalar c) = Unit {0}
-Numbers (Wrong n d) = (n ≡ kind.InvalidCharDelimiter → ⊥)
-Numbers (WrongAt n d p) = (n ≡ kind.InvalidCharName → ⊥)
+abbrev pub Numbers : Result ℕ CharError → Type 0
+Numbers (Ok c) = Unit {0}
+Numbers (Err (Wrong n d)) = (n ≡ kind.InvalidCharDelimiter → ⊥)
+Numbers (Err (WrongAt n d p)) = (n ≡ kind.InvalidCharName → ⊥)
 
 numbers_hex : (n : ℕ) (h : Hex) → Numbers (later n (scalar_of h))
 unfolding scalar_of
-numbers_hex n (hex.Value v) = if_all (λ (c : CharValue). Numbers (later n c)) (is_scalar v) tt (λ e. omega arith)
-numbers_hex n (hex.Wrong d p) = λ e. omega arith
+numbers_hex n (Ok v) = if_all (λ (c : Result ℕ CharError). Numbers (later n c)) (is_scalar v) tt (λ e. omega arith)
+numbers_hex n (Err w) = λ e. omega arith
 
 numbers_nameless : (report : Bool) (t : List ℕ) → Numbers (nameless report t)
 unfolding nameless
@@ -195,13 +194,13 @@ numbers report t =
     tt
 
 -- in plain mode no place within a name is told but of a hex form
-pub plain_never : (t : List ℕ) (d p : ℕ) → character_of false t ≡ WrongAt kind.InvalidCharDelimiter d p → ⊥
+pub plain_never : (t : List ℕ) (d p : ℕ) → character_of false t ≡ Err (WrongAt kind.InvalidCharDelimiter d p) → ⊥
 unfolding nameless
 plain_never t d p e = go (modes t) e
   where
-    go : {v w : CharValue} → Modes t v w → w ≡ WrongAt kind.InvalidCharDelimiter d p → ⊥
+    go : {v w : Result ℕ CharError} → Modes t v w → w ≡ Err (WrongAt kind.InvalidCharDelimiter d p) → ⊥
     go (Modes.same v a) e = subst Apart e a refl
     go Modes.none e = never e
       where
-        never : nameless false t ≡ WrongAt kind.InvalidCharDelimiter d p → ⊥
+        never : nameless false t ≡ Err (WrongAt kind.InvalidCharDelimiter d p) → ⊥
         never e = impossible cc

@@ -11,8 +11,7 @@ use Rattle.laws.specs.Quoted.{code, codes}
 use Rattle.laws.specs.Texts.{begins}
 use Rattle.chars.specs.Encode.{utf8, spelled}
 use Rattle.chars.proofs.Width.{utf8-one}
-use Rattle.digits.specs.declared.Hex.TheVariants as hex
-use Rattle.digits.specs.Hex.{hex_value}
+use Rattle.digits.specs.Hex.{hex_value, wrong}
 use Rattle.items.specs.declared.Outcome.{Outcome}
 use Rattle.items.specs.declared.Outcome.TheVariants.{Token, Str, HereStr, Word, Run, Lined, Keyword, Character, Error, ErrorAt}
 use Rattle.items.specs.Kinds as kind
@@ -70,7 +69,7 @@ pub record Digits (s : ℕ) (raw : List ℕ) (d a b : ℕ) : Type 0 where
   pub ascii : k < 0x80
   pub stop : Stops ys
   pub is : raw ≡ x ++ k ∷ (ds ++ ys)
-  pub fails : hex_value ds ≡ hex.Wrong d p
+  pub fails : hex_value ds ≡ wrong d p
   pub from : a ≡ s + (length x + 1 + p)
   pub to : b ≡ past_failing d a (drop p ds ++ zs)
 

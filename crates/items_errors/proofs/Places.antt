@@ -9,8 +9,7 @@ use lib.Seq.{drop-append_seam}
 use native.Mathlib.Omega.{arith}
 use Rattle.chars.specs.Encode.{utf8, bytes_of}
 use Rattle.chars.proofs.Round.{back, one_read}
-use Rattle.digits.specs.declared.Hex.TheVariants as hex
-use Rattle.digits.specs.Hex.{hex_value, empty, bad_digit, overflow}
+use Rattle.digits.specs.Hex.{hex_value, empty, bad_digit, overflow, wrong}
 use Rattle.items.specs.Items.{Place, items}
 use Rattle.items.specs.Readers.{SoFar, past_failing}
 use Rattle.items.proofs.Every.{Every}
@@ -34,7 +33,7 @@ whole_digits ds ys (Stops.byte y zs small) vs e h =
     let r : Split y small zs vs ds = split y small zs vs ds e in
     record { hs = r.us; is = sym r.before; chars = every_left IsChar r.us (y ∷ r.vs) (subst (Every IsChar) r.chars h) }
 
-pub whole_bad : (ds : List ℕ) (p : ℕ) → Whole ds → hex_value ds ≡ hex.Wrong bad_digit p → BadAt ds p
+pub whole_bad : (ds : List ℕ) (p : ℕ) → Whole ds → hex_value ds ≡ wrong bad_digit p → BadAt ds p
 whole_bad ds p w e = subst (λ (l : List ℕ). BadAt l p) (sym w.is) (bad_at w.hs p w.chars (sym (ap hex_value w.is) ∙ e))
 
 -- ---- what fails among the digits ds, which stand after x and k in the text and before v
@@ -44,7 +43,7 @@ module _ (whole : List ℕ) (s : ℕ) (x : List ℕ) (k : ℕ) (ascii : k < 0x80
   abbrev u : List ℕ
   u = x ++ (k ∷ [])
 
-  none_there : hex_value ds ≡ hex.Wrong empty p → b ≡ past_failing empty a (drop p ds ++ zs) → NoDigits whole a b
+  none_there : hex_value ds ≡ wrong empty p → b ≡ past_failing empty a (drop p ds ++ zs) → NoDigits whole a b
   unfolding past_failing
   none_there e to =
       let z : p ≡ 0 = empty_value ds p e in
@@ -58,7 +57,7 @@ module _ (whole : List ℕ) (s : ℕ) (x : List ℕ) (k : ℕ) (ascii : k < 0x80
         empty = to;
       }
 
-  bad_there : Whole ds → hex_value ds ≡ hex.Wrong bad_digit p → b ≡ past_failing bad_digit a (drop p ds ++ zs) → BadDigit whole a b
+  bad_there : Whole ds → hex_value ds ≡ wrong bad_digit p → b ≡ past_failing bad_digit a (drop p ds ++ zs) → BadDigit whole a b
   unfolding past_failing
   bad_there w e to =
       let r : BadAt ds p = whole_bad ds p w e in
@@ -81,7 +80,7 @@ module _ (whole : List ℕ) (s : ℕ) (x : List ℕ) (k : ℕ) (ascii : k < 0x80
         wrong = r.wrong;
       }
 
-  over_there : hex_value ds ≡ hex.Wrong overflow p → b ≡ past_failing overflow a (drop p ds ++ zs) → Overflow whole a b
+  over_there : hex_value ds ≡ wrong overflow p → b ≡ past_failing overflow a (drop p ds ++ zs) → Overflow whole a b
   unfolding past_failing
   over_there e to =
       let m : Many ds p = over_value ds p e in
@@ -110,13 +109,13 @@ module _ (whole : List ℕ) (s : ℕ) (x : List ℕ) (k : ℕ) (ascii : k < 0x80
         large = r.large;
       }
 
-  fails_there : (d : ℕ) → Known (hex.Wrong d p) → Whole ds → hex_value ds ≡ hex.Wrong d p → b ≡ past_failing d a (drop p ds ++ zs) → Fails whole a b d
+  fails_there : (d : ℕ) → Known (wrong d p) → Whole ds → hex_value ds ≡ wrong d p → b ≡ past_failing d a (drop p ds ++ zs) → Fails whole a b d
   fails_there d (inl f) w e to =
-      subst (Fails whole a b) (sym f) (Fails.none (none_there (e ∙ ap (λ (n : ℕ). hex.Wrong n p) f) (to ∙ ap (λ (n : ℕ). past_failing n a (drop p ds ++ zs)) f)))
+      subst (Fails whole a b) (sym f) (Fails.none (none_there (e ∙ ap (λ (n : ℕ). wrong n p) f) (to ∙ ap (λ (n : ℕ). past_failing n a (drop p ds ++ zs)) f)))
   fails_there d (inr (inl f)) w e to =
-      subst (Fails whole a b) (sym f) (Fails.bad (bad_there w (e ∙ ap (λ (n : ℕ). hex.Wrong n p) f) (to ∙ ap (λ (n : ℕ). past_failing n a (drop p ds ++ zs)) f)))
+      subst (Fails whole a b) (sym f) (Fails.bad (bad_there w (e ∙ ap (λ (n : ℕ). wrong n p) f) (to ∙ ap (λ (n : ℕ). past_failing n a (drop p ds ++ zs)) f)))
   fails_there d (inr (inr f)) w e to =
-      subst (Fails whole a b) (sym f) (Fails.over (over_there (e ∙ ap (λ (n : ℕ). hex.Wrong n p) f) (to ∙ ap (λ (n : ℕ). past_failing n a (drop p ds ++ zs)) f)))
+      subst (Fails whole a b) (sym f) (Fails.over (over_there (e ∙ ap (λ (n : ℕ). wrong n p) f) (to ∙ ap (λ (n : ℕ). past_failing n a (drop p ds ++ zs)) f)))
 
 -- ---- an extent, whose bytes are whole characters
 

@@ -12,8 +12,7 @@ use Rattle.laws.specs.Quoted.{code}
 use Rattle.laws.proofs.Choice.{by_bool, no_yes}
 use Rattle.chars.specs.Encode.{utf8}
 use Rattle.chars.proofs.Width.{utf8-one, width-utf8}
-use Rattle.digits.specs.declared.Hex.TheVariants as hex
-use Rattle.digits.specs.Hex.{hex_value}
+use Rattle.digits.specs.Hex.{hex_value, wrong}
 use Rattle.items.specs.Classes.{stops_hex}
 use Rattle.items.specs.Readers.{so_far, eat, past_failing, read_item, SoFar}
 use Rattle.items.proofs.Every.{Every}
@@ -101,7 +100,7 @@ over s i = record {
 module _ (s : ℕ) (i : SoFar) (c : ℕ) (from_start : i.at ≡ s + length i.bytes) where
   -- digits ds that fail, after the bytes x and k of the item, before the closer c
   failed : (x : List ℕ) (k : ℕ) (ds : List ℕ) (d p : ℕ) → k < 0x80 → c < 0x80 → i.bytes ≡ x ++ k ∷ ds → Behind x k c → Every Inner ds
-      → hex_value ds ≡ hex.Wrong d p
+      → hex_value ds ≡ wrong d p
       → (a : ℕ) → a ≡ s + (length x + 1 + p)
       → (g : Digits s (eat i c).bytes d a (past_failing d a (drop p ds))) × Quoted (eat i c).bytes g.ds (length g.x + 1)
   failed x k ds d p ascii small is behind inner fails a from =
@@ -124,7 +123,7 @@ module _ (s : ℕ) (i : SoFar) (c : ℕ) (from_start : i.at ≡ s + length i.byt
       )
 
   -- the digits at the end of the bytes fail at the digit p, before the closer c
-  fails_at : (m d p : ℕ) → Opened i.bytes m c → c < 0x80 → hex_value (drop m i.bytes) ≡ hex.Wrong d p → p ≤ length (drop m i.bytes)
+  fails_at : (m d p : ℕ) → Opened i.bytes m c → c < 0x80 → hex_value (drop m i.bytes) ≡ wrong d p → p ≤ length (drop m i.bytes)
       → (t : List ℕ) → t ≡ drop p (drop m i.bytes)
       → (g : Digits s (eat i c).bytes d (i.at - length t) (past_failing d (i.at - length t) t)) × Quoted (eat i c).bytes g.ds (length g.x + 1)
   fails_at m d p o small f g t e =
@@ -133,7 +132,7 @@ module _ (s : ℕ) (i : SoFar) (c : ℕ) (from_start : i.at ≡ s + length i.byt
       = omega (arith, g, ap length e, length-drop p (drop m i.bytes), ap length r, ap length o.is, length-append o.x (o.k ∷ o.ds)) in
       subst (λ (l : List ℕ). (h : Digits s (eat i c).bytes d (i.at - length t) (past_failing d (i.at - length t) l))
       × Quoted (eat i c).bytes h.ds (length h.x + 1)) (ap (drop p) (sym r) ∙ sym e)
-      (failed o.x o.k o.ds d p o.ascii small o.is o.behind o.inner (subst (λ (l : List ℕ). hex_value l ≡ hex.Wrong d p) r f) (i.at - length t) at)
+      (failed o.x o.k o.ds d p o.ascii small o.is o.behind o.inner (subst (λ (l : List ℕ). hex_value l ≡ wrong d p) r f) (i.at - length t) at)
 
   on : WalkSteps true i c (knows_of (says s i)) (knows_of (says s (eat i c))) (Told s i.bytes)
   on = record {

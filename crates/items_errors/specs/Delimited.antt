@@ -1,9 +1,9 @@
 -- Error 13 exactly where 10 would stand and a delimiter stands after the name's first character (02 (vii)). `t` are the bytes after `#\`.
-use Rattle.std.specs.Prelude.{ℕ, ◌+◌, ◌<◌, ◌≡◌, true, false, List, length, get_or, drop}
+use Rattle.std.specs.Prelude.{ℕ, ◌+◌, ◌<◌, ◌≡◌, true, false, List, length, get_or, drop, Err}
 use Rattle.laws.specs.Quoted.{codes}
 use Rattle.laws.specs.Texts.{begins}
 use Rattle.items.specs.Kinds as kind
-use Rattle.items.specs.declared.CharValue.TheVariants.{Wrong, WrongAt}
+use Rattle.items.specs.declared.CharError.TheVariants.{Wrong, WrongAt}
 use Rattle.items.specs.Meaning.{is_delimiter, character_of}
 use Rattle.items_coverage.specs.Records.{row_kind, word, start_word}
 use Rattle.items_errors.specs.First.{from_word, to_word, extent_of}
@@ -17,11 +17,11 @@ pub record Delimited (t : List ℕ) (p : ℕ) : Type 0 where
 
 -- in plain mode the name is error 10
 abbrev pub Ten : List ℕ → Type 0
-Ten t = character_of false t ≡ Wrong kind.InvalidCharName 0
+Ten t = character_of false t ≡ Err (Wrong kind.InvalidCharName 0)
 
 -- in report mode it is error 13, which points p bytes after `#\`
 abbrev pub Thirteen : List ℕ → ℕ → Type 0
-Thirteen t p = character_of true t ≡ WrongAt kind.InvalidCharDelimiter 0 p
+Thirteen t p = character_of true t ≡ Err (WrongAt kind.InvalidCharDelimiter 0 p)
 
 -- none stands after the first byte
 abbrev pub Undelimited : List ℕ → Type 0

@@ -16,10 +16,9 @@ use Rattle.laws.proofs.Choice.{by_bool, no_yes}
 use Rattle.chars.specs.Encode.{utf8, width, is_scalar}
 use Rattle.chars.proofs.Round.{back, one_read}
 use Rattle.chars.proofs.Width.{width-utf8, wide}
-use Rattle.digits.specs.declared.Hex.{Hex}
-use Rattle.digits.specs.declared.Hex.TheVariants.{Value, Wrong}
 use Rattle.digits.specs.Digits.{digit_of, value}
-use Rattle.digits.specs.Hex.{hex_digits, hex_after_plus, hex_value, empty, bad_digit, overflow}
+use Rattle.digits.proofs.HexDigits.{same_wrong}
+use Rattle.digits.specs.Hex.{hex_digits, hex_after_plus, hex_value, empty, bad_digit, overflow, Hex, wrong}
 use Rattle.items.specs.Readers.{past_failing}
 use Rattle.items.proofs.Every.{Every, every_append}
 use Rattle.items_coverage.proofs.Bytes.{Spelt, low, high, spelt}
@@ -53,15 +52,15 @@ past_digits (c ∷ good) t k v h f =
 not_digit : (x : ℕ) → (IsDigit x → ⊥) → ltb (digit_of x) 16 ≡ false
 not_digit x n = by_bool (ltb (digit_of x) 16) (λ e. absurd (n (ltb-true (digit_of x) 16 e))) (λ e. e)
 
-bad_here : (c : ℕ) (after : List ℕ) (k v : ℕ) → 16 ≤ digit_of c → hex_digits k v (utf8 c ++ after) ≡ Wrong bad_digit k
+bad_here : (c : ℕ) (after : List ℕ) (k v : ℕ) → 16 ≤ digit_of c → hex_digits k v (utf8 c ++ after) ≡ wrong bad_digit k
 unfolding hex_digits
 bad_here c after k v w = go (utf8 c) (spelt c)
   where
-    go : (u : List ℕ) → Spelt c u → hex_digits k v (u ++ after) ≡ Wrong bad_digit k
+    go : (u : List ℕ) → Spelt c u → hex_digits k v (u ++ after) ≡ wrong bad_digit k
     go u (low h) = rw (not_digit c (λ d. omega arith), hex_digits)
     go u (high x y g h) = rw (not_digit x (λ d. omega (arith, digit_small x d, h.0)), hex_digits)
 
-over_here : (c : ℕ) (after : List ℕ) (k v : ℕ) → IsDigit c → 2 ^ 32 ≤ v * 16 + digit_of c → hex_digits k v (c ∷ after) ≡ Wrong overflow k
+over_here : (c : ℕ) (after : List ℕ) (k v : ℕ) → IsDigit c → 2 ^ 32 ≤ v * 16 + digit_of c → hex_digits k v (c ∷ after) ≡ wrong overflow k
 unfolding hex_digits
 over_here c after k v d l =
     let large : ltb (v * 16 + digit_of c) (2 ^ 32) ≡ false = by_bool (ltb (v * 16 + digit_of c) (2 ^ 32)) (λ e. absurd (omega (arith, ltb-true (v * 16 + digit_of c) (2 ^ 32) e))) (λ e. e) in
@@ -83,13 +82,13 @@ read_digits (b ∷ c ∷ s) h = by_bool (eqb b (code "+"))
     (λ e. inl (rw (e, lt-ltb 1 (length (b ∷ c ∷ s)) (omega arith))))
     (λ e. inl (rw e))
 
-lone_plus : hex_value (codes "+") ≡ Wrong bad_digit 0
+lone_plus : hex_value (codes "+") ≡ wrong bad_digit 0
 unfolding hex_value hex_after_plus
 lone_plus = refl
 
 -- what a failing place says of the digit reader: its answer, and where the failing character ends
 record Read (ds : List ℕ) (d p q : ℕ) : Type 0 where
-  answer : hex_value ds ≡ Wrong d p
+  answer : hex_value ds ≡ wrong d p
   past : q ≡ past_failing d p (drop p ds)
 
 -- some digits, then what fails, are no lone plus
@@ -119,7 +118,7 @@ some_left (b ∷ ds) t n e h = omega arith
 read_failing : (ds : List ℕ) (d p q : ℕ) → FailAt ds d p q → Read ds d p q
 unfolding hex_value past_failing
 read_failing ds d p q (none e) = record { answer = ap hex_value e; past = refl }
-read_failing ds d p q (bad good c after is digits fits scalar wrong) =
+read_failing ds d p q (bad good c after is digits fits scalar past-digits) =
     let t : List ℕ = utf8 c ++ after in
     let left : drop (plus ds + length good) ds ≡ t = behind ds good t is in
     let wide-t : 0 < length (good ++ t) = omega (arith, length-append good t, length-append (utf8 c) after, width-utf8 c, wide c) in
@@ -128,15 +127,15 @@ read_failing ds d p q (bad good c after is digits fits scalar wrong) =
       past = sym (ap (past_failing bad_digit (plus ds + length good)) left ∙ (rw (back c after scalar)));
     }
   where
-    by_reader : (hex_value ds ≡ hex_digits (plus ds) 0 (drop (plus ds) ds)) ⊎ (ds ≡ codes "+") → hex_value ds ≡ Wrong bad_digit (plus ds + length good)
+    by_reader : (hex_value ds ≡ hex_digits (plus ds) 0 (drop (plus ds) ds)) ⊎ (ds ≡ codes "+") → hex_value ds ≡ wrong bad_digit (plus ds + length good)
     by_reader (inl e) =
         e ∙ ap (hex_digits (plus ds) 0) is ∙ past_digits good (utf8 c ++ after) (plus ds) 0 digits fits
-        ∙ bad_here c after (plus ds + length good) (value 16 0 good) wrong
+        ∙ bad_here c after (plus ds + length good) (value 16 0 good) past-digits
     by_reader (inr e) =
         let z : plus ds ≡ 0 = ap plus e ∙ plus_alone in
         let g : good ≡ [] = no_good good (utf8 c ++ after) digits (sym is ∙ ap (λ (n : ℕ). drop n ds) z ∙ e) in
         let n : 0 ≡ plus ds + length good = omega (arith, z, ap length g) in
-        ap hex_value e ∙ lone_plus ∙ ap (Wrong bad_digit) n
+        ap hex_value e ∙ lone_plus ∙ ap (wrong bad_digit) n
 read_failing ds d p q (over good c after is digits fits digit large) =
     let t : List ℕ = c ∷ after in
     let left : drop (plus ds + length good) ds ≡ t = behind ds good t is in
@@ -146,7 +145,7 @@ read_failing ds d p q (over good c after is digits fits digit large) =
       past = sym (ap (past_failing overflow (plus ds + length good)) left ∙ (rw (one_read c after (digit_small c digit))));
     }
   where
-    by_reader : (hex_value ds ≡ hex_digits (plus ds) 0 (drop (plus ds) ds)) ⊎ (ds ≡ codes "+") → hex_value ds ≡ Wrong overflow (plus ds + length good)
+    by_reader : (hex_value ds ≡ hex_digits (plus ds) 0 (drop (plus ds) ds)) ⊎ (ds ≡ codes "+") → hex_value ds ≡ wrong overflow (plus ds + length good)
     by_reader (inl e) =
         e ∙ ap (hex_digits (plus ds) 0) is ∙ past_digits good (c ∷ after) (plus ds) 0 digits fits
         ∙ over_here c after (plus ds + length good) (value 16 0 good) digit (omega (arith, large, value_last good c 0))
@@ -277,9 +276,9 @@ one_place raw start d a b d' a' b' x y =
     let s = one_stand raw x.ds y.ds x.n y.n x.stand y.stand in
     let f : Read x.ds d x.p x.q = read_failing x.ds d x.p x.q x.fails in
     let g : Read y.ds d' y.p y.q = read_failing y.ds d' y.p y.q y.fails in
-    let e : Wrong d x.p ≡ Wrong d' y.p = sym f.answer ∙ ap hex_value s.0 ∙ g.answer in
-    let kind : d ≡ d' = cc in
-    let place : x.p ≡ y.p = cc in
+    let e : wrong d x.p ≡ wrong d' y.p = sym f.answer ∙ ap hex_value s.0 ∙ g.answer in
+    let kind : d ≡ d' = (same_wrong d d' x.p y.p e).0 in
+    let place : x.p ≡ y.p = (same_wrong d d' x.p y.p e).1 in
     let past : x.q ≡ y.q
     = f.past ∙ ap (λ (k : ℕ). past_failing k x.p (drop x.p x.ds)) kind ∙ ap (λ (k : ℕ). past_failing d' k (drop k x.ds)) place
     ∙ ap (λ (l : List ℕ). past_failing d' y.p (drop y.p l)) s.0 ∙ sym g.past in

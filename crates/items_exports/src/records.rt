@@ -28,10 +28,7 @@ fn opens_inside(records: &[u32], p: usize, depth: u32) -> bool
     ensures { result ≡ opens_inside records.now depth p }
 {
     let first = p * RECORD_WORDS;
-    if records[first] == OPEN_PAREN {
-        return records[first + RECORD_DEPTH] == depth;
-    }
-    false
+    records[first] == OPEN_PAREN && records[first + RECORD_DEPTH] == depth
 }
 
 // The last record before p that opens a bracket inside so many others; `none` where there is none.
@@ -39,11 +36,9 @@ fn open_before(records: &[u32], depth: u32, none: usize, p: usize) -> usize
     requires { p ≤ count_of records.now }
     ensures { result ≡ open_before records.now depth none p }
 {
-    let mut left = p;
-    while 0 < left {
-        left -= 1;
-        if opens_inside(records, left, depth) {
-            return left;
+    for q in (0..p).rev() {
+        if opens_inside(records, q, depth) {
+            return q;
         }
     }
     none
@@ -69,23 +64,18 @@ pub fn mihadrena_opener(records: &[u32], at: usize) -> usize
 fn lies(from: u32, to: u32, length: usize) -> bool
     ensures { result ≡ (leb from to && leb to length) }
 {
-    if to < from {
-        return false;
-    }
-    to as usize <= length
+    from <= to && to as usize <= length
 }
 
 // Whether a text lies where it should.
 fn text_fits(origin: u32, from: u32, to: u32, source: usize, text: usize) -> bool
     ensures { result ≡ text_fits origin from to source text }
 {
-    if origin == IN_SOURCE {
-        return lies(from, to, source);
+    match origin {
+        IN_SOURCE => lies(from, to, source),
+        IN_MEMORY => lies(from, to, text),
+        _ => origin == NO_TEXT,
     }
-    if origin == IN_MEMORY {
-        return lies(from, to, text);
-    }
-    origin == NO_TEXT
 }
 
 // Whether a record's extent, place and text lie in a source and a text memory of these lengths.
@@ -94,21 +84,15 @@ fn record_fits(records: &[u32], p: usize, source: usize, text: usize) -> bool
     ensures { result ≡ record_fits records.now source text p }
 {
     let first = p * RECORD_WORDS;
-    if !lies(
+    lies(
         records[first + EXTENT_START],
         records[first + EXTENT_END],
         source,
-    ) {
-        return false;
-    }
-    if !lies(
+    ) && lies(
         records[first + PLACE_START],
         records[first + PLACE_END],
         source,
-    ) {
-        return false;
-    }
-    text_fits(
+    ) && text_fits(
         records[first + TEXT_SOURCE],
         records[first + TEXT_START],
         records[first + TEXT_END],
@@ -121,10 +105,8 @@ fn record_fits(records: &[u32], p: usize, source: usize, text: usize) -> bool
 pub fn mihadrena_records_fit(records: &[u32], source: usize, text: usize) -> bool
     ensures { result ≡ records_fit records.now source text }
 {
-    let mut left = records.len() / RECORD_WORDS;
-    while 0 < left {
-        left -= 1;
-        if !record_fits(records, left, source, text) {
+    for p in (0..records.len() / RECORD_WORDS).rev() {
+        if !record_fits(records, p, source, text) {
             return false;
         }
     }

@@ -1,7 +1,7 @@
 -- The reader's second pass, which stores the words.
 use mathlib.Core.Path.{◌≡◌, refl, sym, ap, ◌∙◌}
 use mathlib.Core.Bool.{true}
-use mathlib.Core.List.{List, [], ◌∷◌, ◌++◌}
+use mathlib.Core.List.{List}
 use Prim.Native.Nat.{ℕ, ◌+◌, ◌-◌, ◌≤◌, ◌<◌}
 use native.Mathlib.Omega.{arith}
 use lib.ListN.{length, take, drop, set}
@@ -13,10 +13,9 @@ use Rattle.items.specs.declared.Record.{Record}
 use Rattle.items_files.specs.Groups.{most}
 use Rattle.items_files.specs.Layout.{before, base, after, first}
 use Rattle.items_files.specs.Glance.{ItemAt}
-use Rattle.items_files.specs.Numbers.{number_of}
+use Rattle.items_files.specs.Numbers.{whole, number_of}
 use Rattle.items_files.specs.Read.{read_from, words_in, sound, opening}
 use Rattle.items_files.specs.declared.Before.{Before}
-use Rattle.items_files.specs.declared.Number.TheVariants.{Whole}
 use Rattle.items_files.proofs.Reader.{Scanning, scanning_start, scanning_word, scanning_few, scanning_end, never_over}
 use Rattle.items_files.proofs.LightItems.{scanning_item}
 
@@ -36,7 +35,7 @@ module _ (s old : List ℕ) (b : Before) (n i : ℕ) {out : List ℕ} (q : sound
   pub filling_end : length s ≤ i → out ≡ written (words_in (read_from opening 0 s)) old
   filling_end h = g.lies ∙ rw (scanning_end s b n i g.scan q h)
 
-  module _ (h : i < length s) {v next less : ℕ} (e : Whole v next ≡ number_of 0 1 i (drop i s)) (l : less ≡ base b) where
+  module _ (h : i < length s) {v next less : ℕ} (e : whole v next ≡ number_of 0 1 i (drop i s)) (l : less ≡ base b) where
     pub filling_sum : less + v ≤ most
     filling_sum = never_over s b n i g.scan q h e l
 

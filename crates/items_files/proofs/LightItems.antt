@@ -10,11 +10,10 @@ use Rattle.items.specs.Items.{record_words, words_of}
 use Rattle.items.specs.declared.Record.{Record}
 use Rattle.items_files.specs.Groups.{most}
 use Rattle.items_files.specs.Layout.{before, base, after}
-use Rattle.items_files.specs.Numbers.{fifth, number_of}
+use Rattle.items_files.specs.Numbers.{fifth, whole, number_of}
 use Rattle.items_files.specs.Read.{between, read_from}
 use Rattle.items_files.specs.Glance.{brief_groups, brief_end, BriefNumber, PairAt, LightHead, LightParts, light_record, front, Through, ItemAt, LightTo}
 use Rattle.items_files.specs.declared.Before.{Before}
-use Rattle.items_files.specs.declared.Number.TheVariants.{Whole}
 use Rattle.items_files.proofs.Reader.{reads, one_group, next_place, push-front, front-front, Scanning, Numbering, numbering_start, numbering_on, numbering_whole}
 
 -- ---- words one after the other
@@ -29,7 +28,7 @@ module _ (s : List ℕ) where
         ∙ ap (λ (n : ℕ). front (ws ++ vs) (read_from (between b'') n (drop next s))) (omega (arith, length-append ws vs));
   }
 
-  through_number : (b : Before) {b' : Before} {i v w next : ℕ} → i < length s → Whole v next ≡ number_of 0 1 i (drop i s) → w ≡ base b + v → w ≤ most
+  through_number : (b : Before) {b' : Before} {i v w next : ℕ} → i < length s → whole v next ≡ number_of 0 1 i (drop i s) → w ≡ base b + v → w ≤ most
       → b' ≡ after b w → Through s b i (w ∷ []) b' next
   through_number b {b'} {i} {v} {w} {next} h e l o a = record {
     same = λ j.
@@ -39,19 +38,19 @@ module _ (s : List ℕ) where
 
   through_byte : (b : Before) {b' : Before} {i w next : ℕ} → i < length s → get_or s i 0 < 128 → next ≡ i + 1 → w ≡ base b + get_or s i 0 → w ≤ most
       → b' ≡ after b w → Through s b i (w ∷ []) b' next
-  through_byte b {b'} {i} {w} {next} h l e = through_number b h (ap (λ (k : ℕ). Whole (get_or s i 0) k) e ∙ one_group s i h l)
+  through_byte b {b'} {i} {w} {next} h l e = through_number b h (ap (λ (k : ℕ). whole (get_or s i 0) k) e ∙ one_group s i h l)
 
 -- ---- brief numbers
 
 module _ (s : List ℕ) (at : ℕ) where
   pub brief_one : at < length s → get_or s at 0 < 128 → BriefNumber s at (get_or s at 0) (at + 1)
-  brief_one h l = record { whole = one_group s at h l; low = omega arith; near = omega arith }
+  brief_one h l = record { is_whole = one_group s at h l; low = omega arith; near = omega arith }
 
   -- the last group of a number, after some that go on
   brief_last : {v w i value next : ℕ} → Numbering s at v w i → i < length s → get_or s i 0 < 128 → (get_or s i 0 ≡ 0 → ⊥) → value ≡ v + w * get_or s i 0 → next ≡ i + 1
       → value < brief_end → next ≤ at + brief_groups → BriefNumber s at value next
   brief_last {v} {w} {i} {value} {next} m h l z e f o n = record {
-    whole = ap (λ (x : ℕ). Whole x next) e ∙ ap (λ (x : ℕ). Whole (v + w * get_or s i 0) x) f ∙ numbering_whole s at m h l z (omega arith);
+    is_whole = ap (λ (x : ℕ). whole x next) e ∙ ap (λ (x : ℕ). whole (v + w * get_or s i 0) x) f ∙ numbering_whole s at m h l z (omega arith);
     low = o;
     near = n;
   }
@@ -126,7 +125,7 @@ module _ (s : List ℕ) where
       → Through s b at (v ∷ (v + get_or s i 0) ∷ get_or s (i + 1) 0 ∷ []) b₃ (i + 2)
   three_words n p h room b b₁ b₂ z a z₁ a₁ z₂ a₂ =
       through_both s
-      (through_number s b h n.whole (omega arith) (omega (arith, n.low)) a)
+      (through_number s b h n.is_whole (omega arith) (omega (arith, n.low)) a)
       (through_both s
       (through_byte s b₁ (omega arith) p.0 refl (omega arith) (omega (arith, n.low, p.0)) a₁)
       (through_byte s b₂ room p.1 (omega arith) (omega arith) (omega (arith, p.1)) a₂))
@@ -135,8 +134,8 @@ pub light_item : (s : List ℕ) (at : ℕ) (b : Before) {from i first j : ℕ} �
     → ItemAt s at b (light_record s at b from i first j) (j + 2)
 unfolding base after
 light_item s at b {from} {i} {first} {j} l =
-    let x = next_place s (at + 4) from i (omega (arith, l.head.room)) l.place.whole in
-    let y = next_place s (i + 2) first j (omega (arith, l.head.room, l.place.near)) l.text.whole in
+    let x = next_place s (at + 4) from i (omega (arith, l.head.room)) l.place.is_whole in
+    let y = next_place s (i + 2) first j (omega (arith, l.head.room, l.place.near)) l.text.is_whole in
     let start : ℕ = b.start + get_or s (at + 2) 0 in
     let end : ℕ = start + get_or s (at + 3) 0 in
     record {

@@ -1,28 +1,28 @@
 -- The reader's passes: the byte machine of specs/Read, number by number.
 use mathlib.Core.Path.{◌≡◌, refl, sym, ap, ◌∙◌, subst}
 use mathlib.Core.List.{List, [], ◌∷◌, ◌++◌, append_assoc, append-nil}
-use mathlib.Core.Bool.{Bool, true, false}
-use Prim.Native.Nat.{ℕ, zero, suc, ◌+◌, ◌-◌, ◌*◌, ◌/◌, ◌%◌, ◌^◌, ◌≤◌, ◌<◌}
+use mathlib.Core.Bool.{true}
+use Prim.Native.Nat.{ℕ, suc, ◌+◌, ◌-◌, ◌*◌, ◌^◌, ◌≤◌, ◌<◌}
 use native.Mathlib.Omega.{arith}
-use native.Mathlib.Numerals.{add-one}
 use native.Mathlib.Nat.{pow-le-pow_right, pow-suc, mul-le-mul_left, mul-suc, mul-zero}
 use lib.ListN.{length, get_or, drop, length-append, length-drop}
 use lib.Seq.{drop-drop}
 use lib.Dec.{ltb, leb, eqb}
 use borrow.Author.Tests.{lt-ltb, le-ltb, le-leb, lt-leb, eq-eqb, ne_eqb}
-use Rattle.std.specs.Prelude.{if◌then◌else◌}
+use Rattle.std.specs.Prelude.{if◌then◌else◌, Result, Ok, Err}
 use Rattle.laws.proofs.Choice.{by_bool, if_all, no_yes}
 use Rattle.laws.proofs.Places.{past, here}
 use Rattle.refusal.specs.Refusals.{cut_short, wrong_number, over_sum}
 use Rattle.items_files.specs.Groups.{most}
 use Rattle.items_files.specs.Layout.{base, after, first}
 use Rattle.items_files.specs.Answers.{served, refused}
-use Rattle.items_files.specs.Numbers.{fifth, number_of}
+use Rattle.items_files.specs.Numbers.{fifth, whole, number_of}
 use Rattle.items_files.specs.Read.{Reading, reading, Took, goes_on, word, bad, entered, taken, between, Found, all, fails, push, told, ended, read_from, sizes, words_in, sound, opening}
 use Rattle.items_files.specs.Glance.{front}
 use Rattle.items_files.specs.declared.Before.{Before}
 use Rattle.items_files.specs.declared.Number.{Number}
-use Rattle.items_files.specs.declared.Number.TheVariants.{Whole, Wrong, Cut}
+use Rattle.items_files.specs.declared.NumberFault.{NumberFault}
+use Rattle.items_files.specs.declared.NumberFault.TheVariants.{Wrong, Cut}
 use Rattle.lines.proofs.Tests.{by_less, by_equal}
 
 -- ---- the bounds of a number that is being read
@@ -107,17 +107,17 @@ view r c f =
 
 module _ (file : List ℕ) (b : Before) (j : ℕ) where
   -- how reading goes on after what stands there
-  abbrev pub onwards : Number → Found
-  onwards Cut = fails cut_short j
-  onwards Wrong = fails wrong_number j
-  onwards (Whole n next) =
-      if ltb most (base b + n)
+  abbrev pub onwards : Result Number NumberFault → Found
+  onwards (Err Cut) = fails cut_short j
+  onwards (Err Wrong) = fails wrong_number j
+  onwards (Ok n) =
+      if ltb most (base b + n.value)
       then fails over_sum j
-      else push (base b + n) (read_from (between (after b (base b + n))) (j + 1) (drop next file))
+      else push (base b + n.value) (read_from (between (after b (base b + n.value))) (j + 1) (drop n.next file))
 
   joins : (n next : ℕ)
       → told (entered b n) (λ t. read_from t j (drop next file)) (λ w t. push w (read_from t (j + 1) (drop next file))) (λ k. fails k j)
-      ≡ onwards (if ltb most n then Wrong else Whole n next)
+      ≡ onwards (if ltb most n then Err Wrong else whole n next)
   unfolding entered
   joins n next = by_bool (ltb most n) (λ e. rw e) (λ e. rw e (by_bool (ltb most (base b + n)) (λ f. rw f) (λ f. rw f)))
 
@@ -142,21 +142,21 @@ module _ (file : List ℕ) (b : Before) (j : ℕ) where
       (λ o. rw (ne_eqb w fifth o) (reads s (v + w * (c - 128)) (w * 128) (at + 1) d (λ z o. omega (arith, o))))))
 
 -- where the next number stands
-abbrev pub Next : ℕ → ℕ → Number → Type 0
-Next at end Cut = Unit {0}
-Next at end Wrong = Unit {0}
-Next at end (Whole n next) = (at < next) × (next ≤ end)
+abbrev pub Next : ℕ → ℕ → Result Number NumberFault → Type 0
+Next at end (Err Cut) = Unit {0}
+Next at end (Err Wrong) = Unit {0}
+Next at end (Ok n) = (at < n.next) × (n.next ≤ end)
 
-sooner : (at a end e : ℕ) (x : Number) → at ≤ a → e ≤ end → Next a e x → Next at end x
-sooner at a end e Cut h l n = tt
-sooner at a end e Wrong h l n = tt
-sooner at a end e (Whole v next) h l n = (omega (arith, n.0), omega (arith, n.1))
+sooner : (at a end e : ℕ) (x : Result Number NumberFault) → at ≤ a → e ≤ end → Next a e x → Next at end x
+sooner at a end e (Err Cut) h l n = tt
+sooner at a end e (Err Wrong) h l n = tt
+sooner at a end e (Ok v) h l n = (omega (arith, n.0), omega (arith, n.1))
 
 number_next : (s : List ℕ) (v w at : ℕ) → Next at (at + length s) (number_of v w at s)
 unfolding number_of
 number_next [] v w at = tt
 number_next (c ∷ s) v w at =
-    let P : Number → Type 0 = Next at (at + length (c ∷ s)) in
+    let P : Result Number NumberFault → Type 0 = Next at (at + length (c ∷ s)) in
     let r : Next (at + 1) (at + 1 + length s) (number_of (v + w * (c - 128)) (w * 128) (at + 1) s) = number_next s (v + w * (c - 128)) (w * 128) (at + 1) in
     if_all P (leb 128 c)
     (if_all P (eqb w fifth) tt (sooner at (at + 1) (at + length (c ∷ s)) (at + 1 + length s) (number_of (v + w * (c - 128)) (w * 128) (at + 1) s) (omega arith) (omega arith) r))
@@ -164,9 +164,9 @@ number_next (c ∷ s) v w at =
     (if_all P (eqb w 1) (omega arith, omega arith) tt)
     (if_all P (ltb most (v + w * c)) tt (omega arith, omega arith)))
 
-pub next_place : (s : List ℕ) (i n next : ℕ) → i ≤ length s → Whole n next ≡ number_of 0 1 i (drop i s) → (i < next) × (next ≤ length s)
+pub next_place : (s : List ℕ) (i n next : ℕ) → i ≤ length s → whole n next ≡ number_of 0 1 i (drop i s) → (i < next) × (next ≤ length s)
 next_place s i n next h e =
-    let r : Next i (i + length (drop i s)) (Whole n next) = subst (Next i (i + length (drop i s))) (sym e) (number_next (drop i s) 0 1 i) in
+    let r : Next i (i + length (drop i s)) (whole n next) = subst (Next i (i + length (drop i s))) (sym e) (number_next (drop i s) 0 1 i) in
     (r.0, omega (arith, r.1, length-drop i s))
 
 -- ---- one number, group by group
@@ -179,7 +179,7 @@ pub numbering_start : (s : List ℕ) (at : ℕ) → Numbering s at 0 1 at
 numbering_start s at = record { fine = fine_between first; same = refl }
 
 module _ (s : List ℕ) (at : ℕ) {v w i : ℕ} (m : Numbering s at v w i) where
-  pub numbering_end : length s ≤ i → Cut ≡ number_of 0 1 at (drop at s)
+  pub numbering_end : length s ≤ i → Err Cut ≡ number_of 0 1 at (drop at s)
   unfolding number_of
   numbering_end h = sym (m.same ∙ ap (number_of v w i) (past s i h))
 
@@ -188,25 +188,25 @@ module _ (s : List ℕ) (at : ℕ) {v w i : ℕ} (m : Numbering s at v w i) wher
     at_byte = m.same ∙ ap (number_of v w i) (here s i h)
 
     module _ (l : get_or s i 0 < 128) where
-      pub numbering_zero : get_or s i 0 ≡ 0 → w ≡ 1 → Whole 0 (i + 1) ≡ number_of 0 1 at (drop at s)
+      pub numbering_zero : get_or s i 0 ≡ 0 → w ≡ 1 → whole 0 (i + 1) ≡ number_of 0 1 at (drop at s)
       unfolding number_of
       numbering_zero z o = sym (at_byte ∙ rw (lt-leb 128 (get_or s i 0) l, eq-eqb (get_or s i 0) 0 z, eq-eqb w 1 o))
 
-      pub numbering_long : get_or s i 0 ≡ 0 → (w ≡ 1 → ⊥) → Wrong ≡ number_of 0 1 at (drop at s)
+      pub numbering_long : get_or s i 0 ≡ 0 → (w ≡ 1 → ⊥) → Err Wrong ≡ number_of 0 1 at (drop at s)
       unfolding number_of
       numbering_long z o = sym (at_byte ∙ rw (lt-leb 128 (get_or s i 0) l, eq-eqb (get_or s i 0) 0 z, ne_eqb w 1 o))
 
       module _ (z : get_or s i 0 ≡ 0 → ⊥) where
-        pub numbering_over : most < v + w * get_or s i 0 → Wrong ≡ number_of 0 1 at (drop at s)
+        pub numbering_over : most < v + w * get_or s i 0 → Err Wrong ≡ number_of 0 1 at (drop at s)
         unfolding number_of
         numbering_over o = sym (at_byte ∙ rw (lt-leb 128 (get_or s i 0) l, ne_eqb (get_or s i 0) 0 z, lt-ltb most (v + w * get_or s i 0) o))
 
-        pub numbering_whole : v + w * get_or s i 0 ≤ most → Whole (v + w * get_or s i 0) (i + 1) ≡ number_of 0 1 at (drop at s)
+        pub numbering_whole : v + w * get_or s i 0 ≤ most → whole (v + w * get_or s i 0) (i + 1) ≡ number_of 0 1 at (drop at s)
         unfolding number_of
         numbering_whole o = sym (at_byte ∙ rw (lt-leb 128 (get_or s i 0) l, ne_eqb (get_or s i 0) 0 z, le-ltb most (v + w * get_or s i 0) o))
 
     module _ (l : 128 ≤ get_or s i 0) where
-      pub numbering_fifth : w ≡ fifth → Wrong ≡ number_of 0 1 at (drop at s)
+      pub numbering_fifth : w ≡ fifth → Err Wrong ≡ number_of 0 1 at (drop at s)
       unfolding number_of
       numbering_fifth o = sym (at_byte ∙ rw (le-leb 128 (get_or s i 0) l, eq-eqb w fifth o))
 
@@ -218,7 +218,7 @@ module _ (s : List ℕ) (at : ℕ) {v w i : ℕ} (m : Numbering s at v w i) wher
       }
 
 -- a number of one group
-pub one_group : (s : List ℕ) (at : ℕ) → at < length s → get_or s at 0 < 128 → Whole (get_or s at 0) (at + 1) ≡ number_of 0 1 at (drop at s)
+pub one_group : (s : List ℕ) (at : ℕ) → at < length s → get_or s at 0 < 128 → whole (get_or s at 0) (at + 1) ≡ number_of 0 1 at (drop at s)
 unfolding number_of
 one_group s at h l =
     let c : ℕ = get_or s at 0 in
@@ -227,7 +227,7 @@ one_group s at h l =
     (ap (number_of 0 1 at) (here s at h)
     ∙ rw (lt-leb 128 (get_or s at 0) l)
     (by_equal (get_or s at 0) 0
-    (λ z. rw (eq-eqb (get_or s at 0) 0 z) (ap (λ (x : ℕ). Whole x (at + 1)) (sym z)))
+    (λ z. rw (eq-eqb (get_or s at 0) 0 z) (ap (λ (x : ℕ). whole x (at + 1)) (sym z)))
     (λ z. rw (ne_eqb (get_or s at 0) 0 z, e, le-ltb most (get_or s at 0) (omega arith)))))
 
 -- ---- reading on
@@ -270,16 +270,16 @@ module _ (s : List ℕ) (b : Before) (n i : ℕ) (m : Scanning s b n i) where
   scanning_short h z = sym (ap sizes (at_end_case h) ∙ rw (ne_eqb b.which 0 z))
 
   module _ (h : i < length s) where
-    pub at_number : {x : Number} → x ≡ number_of 0 1 i (drop i s) → read_from opening 0 s ≡ front m.done (onwards s b n x)
+    pub at_number : {x : Result Number NumberFault} → x ≡ number_of 0 1 i (drop i s) → read_from opening 0 s ≡ front m.done (onwards s b n x)
     at_number e = rw e (m.whole ∙ ap (front m.done) (reads s b n (drop i s) 0 1 i refl (λ z o. omega (arith, z, length-drop i s))))
 
-    pub scanning_cut : Cut ≡ number_of 0 1 i (drop i s) → refused cut_short n ≡ sizes (read_from opening 0 s)
+    pub scanning_cut : Err Cut ≡ number_of 0 1 i (drop i s) → refused cut_short n ≡ sizes (read_from opening 0 s)
     scanning_cut e = sym (ap sizes (at_number e))
 
-    pub scanning_wrong : Wrong ≡ number_of 0 1 i (drop i s) → refused wrong_number n ≡ sizes (read_from opening 0 s)
+    pub scanning_wrong : Err Wrong ≡ number_of 0 1 i (drop i s) → refused wrong_number n ≡ sizes (read_from opening 0 s)
     scanning_wrong e = sym (ap sizes (at_number e))
 
-    module _ {v next less : ℕ} (e : Whole v next ≡ number_of 0 1 i (drop i s)) (l : less ≡ base b) where
+    module _ {v next less : ℕ} (e : whole v next ≡ number_of 0 1 i (drop i s)) (l : less ≡ base b) where
       pub over_fails : most < less + v → read_from opening 0 s ≡ fails over_sum n
       over_fails o = at_number e ∙ rw (← l, lt-ltb most (less + v) o)
 
@@ -321,11 +321,10 @@ module _ (s : List ℕ) (b : Before) (n i : ℕ) (m : Scanning s b n i) (q : sou
   scanning_end h = let e = at_end_case s b n i m h in ap words_in e ∙ ended_words (between b) n m.done (sym (ap sound e) ∙ q)
 
   module _ (h : i < length s) where
-    pub never_cut : {P : Type 0} → Cut ≡ number_of 0 1 i (drop i s) → P
-    never_cut e = unsound q (at_number s b n i m h e)
+    pub never_failing : {P : Type 0} (x : Result Number NumberFault) → x ≡ number_of 0 1 i (drop i s) → ((v : Number) → x ≡ Ok v → ⊥) → P
+    never_failing (Ok v) e none = absurd (none v refl)
+    never_failing (Err Cut) e none = unsound q (at_number s b n i m h e)
+    never_failing (Err Wrong) e none = unsound q (at_number s b n i m h e)
 
-    pub never_wrong : {P : Type 0} → Wrong ≡ number_of 0 1 i (drop i s) → P
-    never_wrong e = unsound q (at_number s b n i m h e)
-
-    pub never_over : {v next less : ℕ} → Whole v next ≡ number_of 0 1 i (drop i s) → less ≡ base b → less + v ≤ most
+    pub never_over : {v next less : ℕ} → whole v next ≡ number_of 0 1 i (drop i s) → less ≡ base b → less + v ≤ most
     never_over {v} {next} {less} e l = by_less most (less + v) (λ o. unsound q (over_fails s b n i m h e l o)) (λ o. o)

@@ -1,13 +1,14 @@
 -- The words of a record, with those of the next records after them: its numbers in the file, and whether one of them goes back.
 use mathlib.Core.Path.{◌≡◌, refl, sym, ap, ◌∙◌}
-use mathlib.Core.Bool.{Bool, true, false}
-use mathlib.Core.List.{List, [], ◌∷◌, ◌++◌, append_assoc, append-nil}
+use mathlib.Core.Bool.{true, false}
+use mathlib.Core.List.{List, ◌∷◌, ◌++◌, append_assoc}
 use Prim.Native.Nat.{ℕ, ◌+◌, ◌-◌, ◌/◌, ◌%◌, ◌≤◌, ◌<◌}
 use native.Mathlib.Omega.{arith}
 use lib.ListN.{length, get_or, drop}
 use lib.Dec.{ltb}
-use borrow.Author.Tests.{lt-ltb, le-ltb, ltb-true, ltb-false}
-use Rattle.laws.proofs.Choice.{by_bool, no_yes, yes_no, impossible}
+use borrow.Author.Tests.{le-ltb, ltb-false}
+use Rattle.laws.proofs.Choice.{by_bool, yes_no, impossible}
+use Rattle.std.specs.Prelude.{Ok, Err}
 use Rattle.laws.proofs.Places.{here}
 use Rattle.items.specs.Items.{record_words, words_of}
 use Rattle.items.specs.declared.Nine.{Nine}
@@ -15,8 +16,7 @@ use Rattle.items.specs.declared.Record.{Record}
 use Rattle.items_files.specs.Groups.{image, images}
 use Rattle.items_files.specs.Layout.{base, after, before, numbers_of, goes_back}
 use Rattle.items_files.specs.Write.{file, Goes, on, back, goes, found}
-use Rattle.items_files.specs.declared.Measured.{Measured}
-use Rattle.items_files.specs.declared.Measured.TheVariants.{Bytes, Back}
+use Rattle.items_files.specs.declared.StoreError.TheVariants.{Back}
 
 -- ---- the ten words at a place
 
@@ -130,10 +130,10 @@ module _ (r : Record) (l p : ℕ) (rest : List ℕ) where
           )
 
   module _ (j n : ℕ) (tens : j % record_words ≡ 0) where
-    told : (m : ℕ) → m / record_words ≡ j / record_words → words j ≡ back m → found (words j) n ≡ Back (j / record_words)
-    told m e q = rw q (ap Back e)
+    told : (m : ℕ) → m / record_words ≡ j / record_words → words j ≡ back m → found (words j) n ≡ Err (Back (j / record_words))
+    told m e q = rw q (ap (λ (k : ℕ). Err (Back k)) e)
 
-    pub record_back : goes_back p r.nine ≡ true → found (words j) n ≡ Back (j / record_words)
+    pub record_back : goes_back p r.nine ≡ true → found (words j) n ≡ Err (Back (j / record_words))
     unfolding goes_back
     record_back =
         by_bool (ltb r.nine.start p) (λ a. rw a (λ h. told (j + 1 + 1) (omega (arith, tens)) (start_back j a))) (λ a.
@@ -149,7 +149,7 @@ module _ (r : Record) (l p : ℕ) (rest : List ℕ) where
   record_forth j tens e =
       by_bool (goes_back p r.nine)
       (λ h.
-      let q : Bytes 0 ≡ Back (j / record_words) = sym (ap (λ (g : Goes). found g 0) e) ∙ record_back j 0 tens h in
+      let q : Ok 0 ≡ Err (Back (j / record_words)) = sym (ap (λ (g : Goes). found g 0) e) ∙ record_back j 0 tens h in
       impossible cc)
       (λ h. h)
 

@@ -1,14 +1,14 @@
 -- The round trips and the one image, of the two calls.
-use mathlib.Core.Path.{◌≡◌, refl, sym, ap, ◌∙◌, subst}
-use mathlib.Core.List.{List, [], ◌∷◌, ◌++◌, append-nil}
-use Prim.Native.Nat.{ℕ, ◌+◌, ◌-◌, ◌*◌, ◌/◌, ◌%◌, ◌≤◌, ◌<◌}
+use mathlib.Core.Path.{◌≡◌, refl, sym, ap, ◌∙◌}
+use mathlib.Core.List.{List, [], ◌∷◌, ◌++◌}
+use Prim.Native.Nat.{ℕ, ◌-◌, ◌*◌, ◌/◌, ◌%◌, ◌≤◌}
 use native.Mathlib.Omega.{arith}
 use lib.ListN.{length, take, drop}
 use lib.Seq.{take_at, take_all, length-take-le}
-use borrow.Author.Tests.{lt-ltb, le-ltb, ltb-true, ltb-false}
+use borrow.Author.Tests.{lt-ltb, le-ltb}
 use Rattle.items.specs.Items.{record_words}
 use Rattle.items_files.specs.Layout.{base, after, first, numbers}
-use Rattle.std.specs.Prelude.{if◌then◌else◌}
+use Rattle.std.specs.Prelude.{Result, Ok, Err}
 use Rattle.items_files.specs.Groups.{image, images}
 use Rattle.laws.specs.Lent.{written}
 use Rattle.laws.proofs.Choice.{impossible}
@@ -19,8 +19,8 @@ use Rattle.items_files.specs.Write as writer
 use Rattle.items_files.specs.Read.{Found, all, fails, between, read_from, opening, read_of}
 use Rattle.items_files.specs.Read as reader
 use Rattle.items_files.specs.declared.Before.{Before}
-use Rattle.items_files.specs.declared.Measured.{Measured}
-use Rattle.items_files.specs.declared.Measured.TheVariants.{Bytes, Back}
+use Rattle.items_files.specs.declared.StoreError.{StoreError}
+use Rattle.items_files.specs.declared.StoreError.TheVariants as writes
 use Rattle.lines.proofs.Tests.{by_less}
 use Rattle.items_files.proofs.Calls.{measured_bytes}
 use Rattle.items_files.proofs.Trips as trips
@@ -68,12 +68,13 @@ one_list ws vs g h e =
 whole_length : (records : List ℕ) → length (whole_records records) ≡ length records / record_words * record_words
 whole_length records = length-take-le (length records / record_words * record_words) records (omega arith)
 
-store-served : (m : Measured) (bytes out : List ℕ) (n : ℕ) (now : List ℕ) → writer.store m bytes out ≡ outcome (served n) now → (m ≡ Bytes n) × (n ≤ length out) × (now ≡ written bytes out)
-store-served (Back k) bytes out n now = λ e. let f : refused goes_back k ≡ served n = ap (λ (o : Outcome). o.answer) e in impossible cc
-store-served (Bytes k) bytes out n now = by_less (length out) k
+store-served : (m : Result ℕ StoreError) (bytes out : List ℕ) (n : ℕ) (now : List ℕ) → writer.store m bytes out ≡ outcome (served n) now → (m ≡ Ok n) × (n ≤ length out) × (now ≡ written bytes out)
+store-served (Err (writes.Back k)) bytes out n now = λ e. let f : refused goes_back k ≡ served n = ap (λ (o : Outcome). o.answer) e in impossible cc
+store-served (Err (writes.TooFew k)) bytes out n now = λ e. let f : refused too_few k ≡ served n = ap (λ (o : Outcome). o.answer) e in impossible cc
+store-served (Ok k) bytes out n now = by_less (length out) k
     (λ h. rw (lt-ltb (length out) k h) (λ e. let f : refused too_few k ≡ served n = ap (λ (o : Outcome). o.answer) e in impossible cc))
     (λ h. rw (le-ltb (length out) k h) (λ e. let f : served k ≡ served n = ap (λ (o : Outcome). o.answer) e in let q : k ≡ n = cc in
-    (ap Bytes q, omega arith, sym (ap (λ (o : Outcome). o.memory) e))))
+    (ap (λ (x : ℕ). Ok x) q, omega arith, sym (ap (λ (o : Outcome). o.memory) e))))
 
 -- a call of the writer that was served, then one of the reader on the bytes written: the records come back
 pub trip_there : (records out : List ℕ) (n : ℕ) (now memory : List ℕ) → trips.Words (whole_records records) → write_of records out ≡ outcome (served n) now

@@ -1,11 +1,12 @@
 -- What the writer answers to records that can be stored: 22, or it serves; never 32.
 use mathlib.Core.Path.{◌≡◌, sym, ap, ◌∙◌}
 use mathlib.Core.List.{List, [], ◌∷◌}
-use Prim.Native.Nat.{ℕ, ◌+◌, ◌-◌, ◌*◌, ◌/◌, ◌≤◌}
+use Prim.Native.Nat.{ℕ, ◌-◌, ◌*◌, ◌/◌, ◌≤◌}
 use native.Mathlib.Omega.{arith}
 use lib.ListN.{length, length-append}
 use lib.Seq.{take_all}
 use lib.Dec.{ltb}
+use Rattle.std.specs.Prelude.{Ok}
 use borrow.Author.Tests.{le-ltb}
 use Rattle.laws.specs.Lent.{written}
 use Rattle.laws.proofs.Choice.{if_all, impossible}
@@ -16,7 +17,6 @@ use Rattle.items_files.specs.Layout.{base, after, first}
 use Rattle.items_files.specs.Answers.{served, refused, Outcome, outcome}
 use Rattle.items_files.specs.Write.{whole_records, file, measured, store, write_of}
 use Rattle.items_files.specs.declared.Before.{Before}
-use Rattle.items_files.specs.declared.Measured.TheVariants.{Bytes}
 use Rattle.items_files.proofs.Groups.{groups_few}
 use Rattle.items_files.proofs.Round.{Writable}
 
@@ -31,7 +31,7 @@ module _ (ws out : List ℕ) (g : Writable ws) where
   whole_is : whole_records ws ≡ ws
   whole_is = take_all (length ws / record_words * record_words) ws (omega (arith, g.tens))
 
-  pub stored : write_of ws out ≡ store (Bytes (length (file first ws))) (file first ws) out
+  pub stored : write_of ws out ≡ store (Ok (length (file first ws))) (file first ws) out
   unfolding write_of measured
   stored = rw (whole_is, g.onward)
 

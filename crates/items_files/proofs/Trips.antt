@@ -1,28 +1,26 @@
 -- The round trips between record lists and item files.
-use mathlib.Core.Path.{◌≡◌, refl, sym, ap, ◌∙◌, subst}
-use mathlib.Core.Bool.{Bool, true, false}
-use mathlib.Core.List.{List, [], ◌∷◌, ◌++◌, append_assoc, append-nil}
+use mathlib.Core.Path.{◌≡◌, refl, sym, ap, ◌∙◌}
+use mathlib.Core.List.{List, [], ◌∷◌, ◌++◌, append_assoc}
 use mathlib.Core.Logic.{◌⊎◌, ⊎_elim, inl, inr}
 use Prim.Native.Nat.{ℕ, zero, suc, ◌+◌, ◌-◌, ◌*◌, ◌/◌, ◌%◌, ◌^◌, ◌≤◌, ◌<◌}
 use native.Mathlib.Omega.{arith}
 use native.Mathlib.Numerals.{add-one}
-use native.Mathlib.Nat.{pow-le-pow_right, pow-suc, mul-le-mul_left, mul-suc, mul-zero, mul-add, mul_assoc, mul_comm, div-add-mod}
+use native.Mathlib.Nat.{pow-le-pow_right, pow-suc, mul-le-mul_left, mul-add, mul_assoc, div-add-mod}
 use lib.ListN.{length, get_or, length-append}
-use lib.Dec.{ltb, leb, eqb}
-use borrow.Author.Tests.{lt-ltb, le-ltb, le-leb, lt-leb, eq-eqb, ne_eqb, eqb-true, eqb-false}
-use Rattle.std.specs.Prelude.{if◌then◌else◌}
+use lib.Dec.{eqb}
+use borrow.Author.Tests.{lt-ltb, le-ltb, le-leb, lt-leb, eq-eqb, ne_eqb, eqb-true}
 use Rattle.items_files.specs.Groups.{most, groups, image}
 use Rattle.items.specs.Items.{record_words, own_words}
 use Rattle.items_files.specs.Layout.{base, after, first}
-use Rattle.items_files.specs.Write.{file, Goes, on, back, goes}
+use Rattle.items_files.specs.Write.{file, on, goes}
 use Rattle.items_files.specs.Numbers.{fifth}
-use Rattle.items_files.specs.Read.{Reading, Took, goes_on, word, bad, entered, taken, between, Found, all, fails, push, told, ended, read_from, opening}
+use Rattle.items_files.specs.Read.{Reading, Took, goes_on, word, entered, taken, between, Found, all, fails, push, told, ended, read_from, opening}
 use Rattle.items_files.specs.declared.Before.{Before}
 use Rattle.laws.proofs.Choice.{by_bool, impossible}
 use Rattle.lines.proofs.Tests.{by_less, by_equal}
 use Rattle.items_files.proofs.Writer.{no_back}
 use Rattle.items_files.proofs.Groups.{last_group, more_groups}
-use Rattle.items_files.proofs.Reader.{Fine, zero_value, View, v_on, v_word, v_bad, view, fine_on, fine_between, fine_less, weight_low, weight_high}
+use Rattle.items_files.proofs.Reader.{Fine, zero_value, View, v_on, v_word, v_bad, view, fine_on, fine_between, fine_less}
 
 -- a list of bytes
 abbrev pub Bytes : List ℕ → Type 0

@@ -1,26 +1,26 @@
 -- The writer's two passes, record by record.
 use mathlib.Core.Path.{◌≡◌, refl, sym, ap, ◌∙◌}
 use mathlib.Core.Bool.{true, false}
-use mathlib.Core.List.{List, [], ◌∷◌, ◌++◌, append_assoc, append-nil}
+use mathlib.Core.List.{List, [], ◌++◌, append_assoc, append-nil}
 use Prim.Native.Nat.{ℕ, ◌+◌, ◌-◌, ◌*◌, ◌/◌, ◌%◌, ◌≤◌, ◌<◌}
 use native.Mathlib.Omega.{arith}
 use lib.ListN.{length, take, drop, length-append}
 use lib.Dec.{ltb}
 use borrow.Author.Tests.{lt-ltb, le-ltb}
 use borrow.Rule.Slice.PartMut.{put_mid}
-use Rattle.std.specs.Prelude.{if◌then◌else◌}
+use Rattle.std.specs.Prelude.{if◌then◌else◌, Ok, Err}
 use Rattle.laws.specs.Lent.{written}
 use Rattle.laws.proofs.Choice.{impossible}
 use Rattle.laws.proofs.Places.{past}
 use Rattle.items.specs.Items.{record_words, words_of}
 use Rattle.items.specs.declared.Record.{Record}
 use Rattle.items_files.specs.Groups.{images}
-use Rattle.items_files.specs.Layout.{base, before, first, numbers_of, goes_back}
-use Rattle.items_files.specs.Write.{file, Goes, on, back, goes, found, measured}
+use Rattle.items_files.specs.Layout.{before, first, numbers_of, goes_back}
+use Rattle.items_files.specs.Write.{file, Goes, on, back, goes, measured}
 use Rattle.items_files.specs.declared.Before.{Before}
-use Rattle.items_files.specs.declared.Measured.TheVariants.{Bytes, Back}
+use Rattle.items_files.specs.declared.StoreError.TheVariants.{Back}
 use Rattle.items_files.proofs.Laid.{Laid, laid_start, laid_length, laid_more, images_few}
-use Rattle.items_files.proofs.Records.{Onward, onward, record_goes, record_back, record_forth, record_file}
+use Rattle.items_files.proofs.Records.{onward, record_goes, record_back, record_forth, record_file}
 use Rattle.lines.proofs.Tests.{by_less}
 
 file_end : (s : List ℕ) (b : Before) (i : ℕ) → length s ≤ i → file b (drop i s) ≡ []
@@ -55,7 +55,7 @@ pub measuring_start : (s : List ℕ) → Measuring s 0 0 0
 measuring_start s = record { last = 0; inside = omega arith; tens = refl; few = omega arith; on_from = refl; bytes = omega arith }
 
 module _ (s : List ℕ) {total p i : ℕ} (w : length s % record_words ≡ 0) (m : Measuring s total p i) where
-  pub measuring_end : length s ≤ i → Bytes total ≡ measured s
+  pub measuring_end : length s ≤ i → Ok total ≡ measured s
   unfolding measured
   measuring_end h =
       let b : Before = before 0 m.last p in
@@ -70,13 +70,13 @@ module _ (s : List ℕ) {total p i : ℕ} (w : length s % record_words ≡ 0) (m
       abbrev rest : List ℕ
       rest = drop (i + record_words) s
 
-      pub measuring_back : goes_back p r.nine ≡ true → Back (i / record_words) ≡ measured s
+      pub measuring_back : goes_back p r.nine ≡ true → Err (Back (i / record_words)) ≡ measured s
       unfolding measured
       measuring_back o = sym (rw (m.on_from, e) (record_back r m.last p rest i (length (file first s)) m.tens o))
 
       pub measuring_turn : {count : ℕ} → goes_back p r.nine ≡ false → count ≡ length (images (numbers_of p r))
-          → Measuring s (total + count) r.nine.start (i + record_words)
-      measuring_turn {count} o f = record {
+          → {next : ℕ} → next ≡ i + record_words → Measuring s (total + count) r.nine.start next
+      measuring_turn {count} o f n = rw n record {
         last = r.depth;
         inside = measuring_room;
         tens = omega (arith, m.tens);
@@ -133,8 +133,9 @@ module _ (s old : List ℕ) {out : List ℕ} {at p i : ℕ} (w : length s % reco
 
       pub filing_turn : {count : ℕ} {last : List ℕ} → count ≡ length (images (numbers_of p r))
           → last ≡ written (images (numbers_of p r)) (take (length out - at) (drop at out))
-          → Filing s old (put_mid at (length out - at) out last) (at + count) r.nine.start (i + record_words)
-      filing_turn k w = record {
+          → {next : ℕ} → next ≡ i + record_words
+          → Filing s old (put_mid at (length out - at) out last) (at + count) r.nine.start next
+      filing_turn k w n = rw n record {
         last = r.depth;
         done = g.done ++ images (numbers_of p r);
         inside = filing_inside;

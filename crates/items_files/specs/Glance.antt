@@ -1,18 +1,15 @@
 -- What the reader may pass at once: brief numbers, and items nearly all of whose numbers have one group. The relations below say what such
--- a number or item is to the reader of Read; a look that finds none (`Other`, the place 0) says nothing, and the reader goes number by number.
-use Rattle.std.specs.Prelude.{ℕ, ◌+◌, ◌-◌, ◌≤◌, ◌<◌, ◌≡◌, List, ◌++◌, length, drop, get_or}
+-- a number or item is to the reader of Read; a look that finds none says nothing, and the reader goes number by number.
+use Rattle.std.specs.Prelude.{ℕ, ◌+◌, ◌-◌, ◌≤◌, ◌<◌, ◌≡◌, List, ◌++◌, length, drop, get_or, Option, Some, None}
 use Rattle.items.specs.Items.{record_words, words_of}
 use Rattle.items.specs.declared.Record.{Record}
 use Rattle.items_files.specs.Groups.{most}
 use Rattle.items_files.specs.Layout.{before}
-use Rattle.items_files.specs.Numbers.{number_of}
+use Rattle.items_files.specs.Numbers.{whole, number_of}
 use Rattle.items_files.specs.Read.{Found, all, fails, between, read_from}
 use Rattle.items_files.specs.declared.Before.{Before}
-use Rattle.items_files.specs.declared.Number.TheVariants.{Whole}
-use Rattle.items_files.specs.declared.Brief.{Brief}
-use Rattle.items_files.specs.declared.Brief.TheVariants as brief
+use Rattle.items_files.specs.declared.Number.{Number}
 use Rattle.items_files.specs.declared.Light.{Light}
-use Rattle.items_files.specs.declared.Light.TheVariants as light
 
 -- ---- brief numbers
 
@@ -25,17 +22,13 @@ brief_end = 268435456
 
 -- a brief number stands at a place, and the next one at `next`
 pub record BriefNumber (s : List ℕ) (at value next : ℕ) : Type 0 where
-  pub whole : Whole value next ≡ number_of 0 1 at (drop at s)
+  pub is_whole : whole value next ≡ number_of 0 1 at (drop at s)
   pub low : value < brief_end
   pub near : next ≤ at + brief_groups
 
-abbrev pub BriefAt : List ℕ → ℕ → Brief → Type 0
-BriefAt s at (brief.Value v next) = BriefNumber s at v next
-BriefAt s at brief.Other = Unit {0}
-
-pub record BriefTo (s : List ℕ) (at next : ℕ) : Type 0 where
-  pub value : ℕ
-  pub number : BriefNumber s at value next
+abbrev pub BriefAt : List ℕ → ℕ → Option Number → Type 0
+BriefAt s at (Some n) = BriefNumber s at n.value n.next
+BriefAt s at None = Unit {0}
 
 -- two numbers of one group each
 abbrev pub PairAt : List ℕ → ℕ → Type 0
@@ -100,9 +93,9 @@ pub record ItemAt (s : List ℕ) (at : ℕ) (b : Before) (r : Record) (next : �
   pub inside : next ≤ length s
   pub through : Through s b at (words_of r) (before 0 r.depth r.nine.start) next
 
-abbrev pub LightAt : List ℕ → ℕ → Before → Light → Type 0
-LightAt s at b (light.Item r next) = ItemAt s at b r next
-LightAt s at b light.Other = Unit {0}
+abbrev pub LightAt : List ℕ → ℕ → Before → Option Light → Type 0
+LightAt s at b (Some l) = ItemAt s at b l.record l.next
+LightAt s at b None = Unit {0}
 
 -- the same where only the places are told: its start and its depth are there to be read
 pub record LightTo (s : List ℕ) (at : ℕ) (b : Before) (next : ℕ) : Type 0 where
@@ -111,3 +104,7 @@ pub record LightTo (s : List ℕ) (at : ℕ) (b : Before) (next : ℕ) : Type 0 
   pub depth : record_there.depth ≡ get_or s (next - 1) 0
   pub fits : b.start + get_or s (at + 2) 0 ≤ most
   pub item : ItemAt s at b record_there next
+
+abbrev pub EndAt : List ℕ → ℕ → Before → Option ℕ → Type 0
+EndAt s at b (Some next) = LightTo s at b next
+EndAt s at b None = Unit {0}

@@ -1,14 +1,14 @@
 -- The writer of item files.
-use Rattle.std.specs.Prelude.{ℕ, ◌+◌, ◌-◌, ◌*◌, ◌/◌, List, [], ◌∷◌, ◌++◌, ltb, length, take, if◌then◌else◌}
+use Rattle.std.specs.Prelude.{ℕ, ◌+◌, ◌-◌, ◌*◌, ◌/◌, List, [], ◌∷◌, ◌++◌, ltb, length, take, if◌then◌else◌, Result, Ok, Err}
 use Rattle.laws.specs.Lent.{written}
 use Rattle.items.specs.Items.{record_words}
 use Rattle.refusal.specs.Refusals as refusal
 use Rattle.items_files.specs.Groups.{image}
 use Rattle.items_files.specs.Layout.{base, after, first}
-use Rattle.items_files.specs.Answers.{served, refused, Outcome, outcome}
+use Rattle.items_files.specs.Answers.{served, refused, unwritten, Outcome, outcome}
 use Rattle.items_files.specs.declared.Before.{Before}
-use Rattle.items_files.specs.declared.Measured.{Measured}
-use Rattle.items_files.specs.declared.Measured.TheVariants.{Bytes, Back}
+use Rattle.items_files.specs.declared.StoreError.{StoreError}
+use Rattle.items_files.specs.declared.StoreError.TheVariants.{Back}
 
 -- the records that a memory holds; the words left over belong to none
 abbrev pub whole_records : List ℕ → List ℕ
@@ -29,17 +29,17 @@ goes b j [] = on
 goes b j (w ∷ ws) = let more = goes (after b w) (j + 1) ws in if ltb w (base b) then back j else more
 
 -- the bytes needed, or the record at which the list goes back
-abbrev pub found : Goes → ℕ → Measured
-found on n = Bytes n
-found (back j) n = Back (j / record_words)
+abbrev pub found : Goes → ℕ → Result ℕ StoreError
+found on n = Ok n
+found (back j) n = Err (Back (j / record_words))
 
-unfoldable pub measured : List ℕ → Measured
+unfoldable pub measured : List ℕ → Result ℕ StoreError
 measured ws = found (goes first 0 ws) (length (file first ws))
 
 -- 32 comes with the record at which the list goes back, counted from 0; then 22 with the bytes needed; refused, nothing is written
-abbrev pub store : Measured → List ℕ → List ℕ → Outcome
-store (Back item) bytes out = outcome (refused refusal.goes_back item) out
-store (Bytes n) bytes out =
+abbrev pub store : Result ℕ StoreError → List ℕ → List ℕ → Outcome
+store (Err e) bytes out = outcome (unwritten e) out
+store (Ok n) bytes out =
     if ltb (length out) n
     then outcome (refused refusal.too_few n) out
     else outcome (served n) (written bytes out)

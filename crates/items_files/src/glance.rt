@@ -1,9 +1,9 @@
 // Items that one look tells: light ones, of which nearly all of a plan are. Any other is for the passes of `loading`, which go number by
 // number.
-ghost use Rattle.std.specs.Prelude.{true, ◌≡◌, ◌+◌, ◌≤◌, ◌<◌, length};
-ghost use Rattle.items_files.specs.Glance.{brief_groups, BriefAt, BriefTo, PairAt, LightHead, LightParts, light_record, LightAt, LightTo};
+ghost use Rattle.std.specs.Prelude.{true, ◌≡◌, ◌+◌, ◌≤◌, length};
+ghost use Rattle.items_files.specs.Glance.{brief_groups, BriefAt, PairAt, LightHead, LightParts, light_record, LightAt, EndAt};
 
-use crate::{Before, Brief, Light};
+use crate::{Before, Light, Number};
 use items::{Nine, Record};
 
 // The lowest byte whose group goes on.
@@ -22,73 +22,51 @@ const LIGHT_BYTES: usize = 16;
 // The highest start that two numbers of one group do not take past 32 bits.
 const LOW_START: u32 = 4294967041;
 
-// A brief number that stands at a place: as a rule the start of a place or of a text is one.
-fn brief_at(file: &[u8], at: usize) -> Brief
+// A brief number that stands at a place, one below 268,435,456 and so of up to four groups: as a rule the start of a place or of a text is
+// one.
+fn brief_at(file: &[u8], at: usize) -> Option<Number>
     requires { at + brief_groups ≤ length file.now }
     ensures { BriefAt file.now at result }
 {
     let c = file[at];
     if c < GOES_ON {
-        return Brief::Value(c as u32, at + 1);
+        return Some(Number {
+            value: c as u32,
+            next: at + 1,
+        });
     }
     let d = file[at + 1];
     if d == 0 {
-        return Brief::Other;
+        return None;
     }
     if d < GOES_ON {
-        return Brief::Value((c - GOES_ON) as u32 + SECOND * d as u32, at + 2);
+        return Some(Number {
+            value: (c - GOES_ON) as u32 + SECOND * d as u32,
+            next: at + 2,
+        });
     }
     let e = file[at + 2];
     if e == 0 {
-        return Brief::Other;
+        return None;
     }
     let low = (c - GOES_ON) as u32 + SECOND * (d - GOES_ON) as u32;
     if e < GOES_ON {
-        return Brief::Value(low + THIRD * e as u32, at + 3);
+        return Some(Number {
+            value: low + THIRD * e as u32,
+            next: at + 3,
+        });
     }
     let g = file[at + 3];
     if g == 0 {
-        return Brief::Other;
+        return None;
     }
     if g < GOES_ON {
-        return Brief::Value(
-            low + THIRD * (e - GOES_ON) as u32 + FOURTH * g as u32,
-            at + 4,
-        );
+        return Some(Number {
+            value: low + THIRD * (e - GOES_ON) as u32 + FOURTH * g as u32,
+            next: at + 4,
+        });
     }
-    Brief::Other
-}
-
-// The place past a brief number, 0 for any other.
-fn brief_end(file: &[u8], at: usize) -> usize
-    requires { at + brief_groups ≤ length file.now }
-    ensures { 0 < result → BriefTo file.now at result }
-{
-    if file[at] < GOES_ON {
-        return at + 1;
-    }
-    let d = file[at + 1];
-    if d == 0 {
-        return 0;
-    }
-    if d < GOES_ON {
-        return at + 2;
-    }
-    let e = file[at + 2];
-    if e == 0 {
-        return 0;
-    }
-    if e < GOES_ON {
-        return at + 3;
-    }
-    let g = file[at + 3];
-    if g == 0 {
-        return 0;
-    }
-    if g < GOES_ON {
-        return at + 4;
-    }
-    0
+    None
 }
 
 // Whether two numbers of one group each stand at a place.
@@ -104,41 +82,27 @@ fn pair_at(file: &[u8], at: usize) -> bool
 fn light_head(file: &[u8], at: usize, b: Before) -> bool
     ensures { result ≡ true → LightHead file.now at b }
 {
-    if 0 < b.which {
-        return false;
-    }
-    if LOW_START < b.start {
-        return false;
-    }
-    if file.len() < LIGHT_BYTES {
-        return false;
-    }
-    if file.len() - LIGHT_BYTES < at {
-        return false;
-    }
-    file[at] | file[at + 1] | file[at + 2] | file[at + 3] < GOES_ON
+    b.which == 0
+        && b.start <= LOW_START
+        && LIGHT_BYTES <= file.len()
+        && at <= file.len() - LIGHT_BYTES
+        && file[at] | file[at + 1] | file[at + 2] | file[at + 3] < GOES_ON
 }
 
-// The place past a light item, 0 for any other.
-pub fn item_end(file: &[u8], at: usize, b: Before) -> usize
-    ensures { 0 < result → LightTo file.now at b result }
+// The place past a light item.
+pub fn item_end(file: &[u8], at: usize, b: Before) -> Option<usize>
+    ensures { EndAt file.now at b result }
 {
     if light_head(file, at, b) {
-        let i = brief_end(file, at + 4);
-        if i == 0 {
-            return 0;
-        }
+        let i = brief_at(file, at + 4)?.next;
         if pair_at(file, i) {
-            let j = brief_end(file, i + 2);
-            if j == 0 {
-                return 0;
-            }
+            let j = brief_at(file, i + 2)?.next;
             if pair_at(file, j) {
-                return j + 2;
+                return Some(j + 2);
             }
         }
     }
-    0
+    None
 }
 
 // The record of a light item at a place: the start of its place ends at i, that of its text at j.
@@ -173,21 +137,28 @@ fn light_record(
 }
 
 // A light item that stands at a place.
-pub fn item_at(file: &[u8], at: usize, b: Before) -> Light
+pub fn item_at(file: &[u8], at: usize, b: Before) -> Option<Light>
     ensures { LightAt file.now at b result }
 {
     if light_head(file, at, b) {
-        let Brief::Value(from, i) = brief_at(file, at + 4) else {
-            return Light::Other;
-        };
-        if pair_at(file, i) {
-            let Brief::Value(first, j) = brief_at(file, i + 2) else {
-                return Light::Other;
-            };
-            if pair_at(file, j) {
-                return Light::Item(light_record(file, at, b, from, i, first, j), j + 2);
+        let place = brief_at(file, at + 4)?;
+        if pair_at(file, place.next) {
+            let text = brief_at(file, place.next + 2)?;
+            if pair_at(file, text.next) {
+                return Some(Light {
+                    record: light_record(
+                        file,
+                        at,
+                        b,
+                        place.value,
+                        place.next,
+                        text.value,
+                        text.next,
+                    ),
+                    next: text.next + 2,
+                });
             }
         }
     }
-    Light::Other
+    None
 }

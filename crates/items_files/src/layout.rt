@@ -30,19 +30,11 @@ pub fn after_item(start: u32, depth: u32) -> Before
 pub fn base_of(b: Before) -> u32
     ensures { result ≡ base b }
 {
-    if b.which == 2 {
-        return b.start;
+    match b.which {
+        2 => b.start,
+        3 | 5 | 8 => b.last,
+        _ => 0,
     }
-    if b.which == 3 {
-        return b.last;
-    }
-    if b.which == 5 {
-        return b.last;
-    }
-    if b.which == 8 {
-        return b.last;
-    }
-    0
 }
 
 // What lies before the word after w.

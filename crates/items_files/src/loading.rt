@@ -1,11 +1,11 @@
 // The reader's two passes: the first looks at every number and writes nothing, the second writes the words.
 ghost use Rattle.std.specs.Prelude.{true, ◌≡◌, ◌≤◌, ◌<◌, length, drop};
 ghost use Rattle.laws.specs.Lent.{written};
-ghost use Rattle.items_files.specs.Answers.{counted};
+ghost use Rattle.items_files.specs.Answers.{got};
 ghost use Rattle.items_files.specs.Numbers.{number_of};
 ghost use Rattle.items_files.specs.Read.{opening, read_from, sizes, words_in, sound};
 
-use crate::{FirstPass, Light, Number, glance, layout};
+use crate::{LoadError, Number, NumberFault, glance, layout};
 use items::RECORD_WORDS;
 use meaning::records::put;
 
@@ -16,87 +16,92 @@ const LARGEST_NUMBER: u64 = 4294967295;
 const FIFTH: u32 = 268435456;
 
 // The number that stands at a place, group by group.
-fn groups_at(file: &[u8], at: usize) -> Number
+fn groups_at(file: &[u8], at: usize) -> Result<Number, NumberFault>
     ensures { result ≡ number_of 0 1 at (drop at file.now) }
 {
     let mut value: u32 = 0;
     let mut weight: u32 = 1;
-    let mut i = at;
-    while i < file.len() {
+    for i in at..file.len() {
         let c = file[i];
         if c < 128 {
             if c == 0 {
                 if weight == 1 {
-                    return Number::Whole(0, i + 1);
+                    return Ok(Number {
+                        value: 0,
+                        next: i + 1,
+                    });
                 }
-                return Number::Wrong;
+                return Err(NumberFault::Wrong);
             }
             let n = value as u64 + weight as u64 * c as u64;
             if LARGEST_NUMBER < n {
-                return Number::Wrong;
+                return Err(NumberFault::Wrong);
             }
-            return Number::Whole(n as u32, i + 1);
+            return Ok(Number {
+                value: n as u32,
+                next: i + 1,
+            });
         }
         if weight == FIFTH {
-            return Number::Wrong;
+            return Err(NumberFault::Wrong);
         }
         value = value + weight * (c - 128) as u32;
         weight = weight * 128;
-        i += 1;
     }
-    Number::Cut
+    Err(NumberFault::Cut)
 }
 
 // The number that stands at a place of the file: most have one group.
-fn number_at(file: &[u8], at: usize) -> Number
+fn number_at(file: &[u8], at: usize) -> Result<Number, NumberFault>
     requires { at < length file.now }
     ensures { result ≡ number_of 0 1 at (drop at file.now) }
 {
     let c = file[at];
     if c < 128 {
-        return Number::Whole(c as u32, at + 1);
+        return Ok(Number {
+            value: c as u32,
+            next: at + 1,
+        });
     }
     groups_at(file, at)
 }
 
-// The words of a file, or the first number that fails.
-pub fn scan(file: &[u8]) -> FirstPass
-    ensures { counted result ≡ sizes (read_from opening 0 file.now) }
+// How many words a file has, or the first number that fails.
+pub fn scan(file: &[u8]) -> Result<usize, LoadError>
+    ensures { got result ≡ sizes (read_from opening 0 file.now) }
 {
     let mut b = layout::at_first();
     let mut n: usize = 0;
     let mut i: usize = 0;
     while i < file.len() {
-        let past = glance::item_end(file, i, b);
-        if 0 < past {
+        if let Some(past) = glance::item_end(file, i, b) {
             b = layout::after_item(b.start + file[i + 2] as u32, file[past - 1] as u32);
             n += RECORD_WORDS;
             i = past;
         } else {
-            let number = number_at(file, i);
-            match number {
-                Number::Whole(value, next) => {
-                    let word = layout::base_of(b) as u64 + value as u64;
+            match number_at(file, i) {
+                Ok(number) => {
+                    let word = layout::base_of(b) as u64 + number.value as u64;
                     if LARGEST_NUMBER < word {
-                        return FirstPass::Over(n);
+                        return Err(LoadError::Over(n));
                     }
                     b = layout::after_word(b, word as u32);
                     n += 1;
-                    i = next;
+                    i = number.next;
                 }
-                Number::Wrong => {
-                    return FirstPass::Wrong(n);
+                Err(NumberFault::Wrong) => {
+                    return Err(LoadError::Wrong(n));
                 }
-                Number::Cut => {
-                    return FirstPass::Cut(n);
+                Err(NumberFault::Cut) => {
+                    return Err(LoadError::Cut(n));
                 }
             }
         }
     }
     if b.which == 0 {
-        return FirstPass::Words(n);
+        return Ok(n);
     }
-    FirstPass::Cut(n)
+    Err(LoadError::Cut(n))
 }
 
 // The words of a file that has no number that fails, from the start of the memory on.
@@ -108,32 +113,20 @@ pub fn fill(file: &[u8], records: &mut [u32])
     let mut n: usize = 0;
     let mut i: usize = 0;
     while i < file.len() {
-        let light = glance::item_at(file, i, b);
-        match light {
-            Light::Item(record, past) => {
-                put(&mut records[n..], record);
-                b = layout::after_item(record.nine.start, record.depth);
-                n += RECORD_WORDS;
-                i = past;
-            }
-            Light::Other => {
-                let number = number_at(file, i);
-                match number {
-                    Number::Whole(value, next) => {
-                        let w = layout::base_of(b) + value;
-                        records[n] = w;
-                        b = layout::after_word(b, w);
-                        n += 1;
-                        i = next;
-                    }
-                    Number::Wrong => {
-                        return;
-                    }
-                    Number::Cut => {
-                        return;
-                    }
-                }
-            }
+        if let Some(light) = glance::item_at(file, i, b) {
+            put(&mut records[n..], light.record);
+            b = layout::after_item(light.record.nine.start, light.record.depth);
+            n += RECORD_WORDS;
+            i = light.next;
+        } else {
+            let Ok(number) = number_at(file, i) else {
+                return;
+            };
+            let w = layout::base_of(b) + number.value;
+            records[n] = w;
+            b = layout::after_word(b, w);
+            n += 1;
+            i = number.next;
         }
     }
 }

@@ -6,7 +6,7 @@ ghost use Rattle.items_files.specs.Groups.{image, images};
 ghost use Rattle.items_files.specs.Layout.{first, goes_back, numbers_of};
 ghost use Rattle.items_files.specs.Write.{file, on, goes, measured};
 
-use crate::Measured;
+use crate::StoreError;
 use items::{Nine, RECORD_WORDS, Record};
 
 // The record that starts at a word.
@@ -35,16 +35,7 @@ fn record_at(words: &[u32], i: usize) -> Record
 fn goes_back(r: Nine, last: u32) -> bool
     ensures { result ≡ goes_back last r }
 {
-    if r.start < last {
-        return true;
-    }
-    if r.end < r.start {
-        return true;
-    }
-    if r.to < r.from {
-        return true;
-    }
-    r.past < r.first
+    r.start < last || r.end < r.start || r.to < r.from || r.past < r.first
 }
 
 // The ten numbers of a record that does not go back.
@@ -81,10 +72,8 @@ fn counts(ns: [u32; RECORD_WORDS]) -> usize
     ensures { result ≡ length (images ns) }
 {
     let mut total: usize = 0;
-    let mut k: usize = 0;
-    while k < RECORD_WORDS {
-        total = total + group_count(ns[k]);
-        k += 1;
+    for n in ns {
+        total += group_count(n);
     }
     total
 }
@@ -96,13 +85,12 @@ fn put_groups(n: u32, out: &mut [u8]) -> usize
 {
     let count = group_count(n);
     let mut rest = n;
-    let mut i: usize = 0;
-    while i + 1 < count {
+    let last = count - 1;
+    for i in 0..last {
         out[i] = 128 + (rest % 128) as u8;
         rest = rest / 128;
-        i += 1;
     }
-    out[i] = rest as u8;
+    out[last] = rest as u8;
     count
 }
 
@@ -124,34 +112,28 @@ fn put_numbers(ns: [u32; RECORD_WORDS], out: &mut [u8]) -> usize
     ensures { (result ≡ length (images ns)) × (out.new ≡ written (images ns) out.old) }
 {
     let mut at: usize = 0;
-    let mut k: usize = 0;
-    while k < RECORD_WORDS {
-        let count = put_number(ns[k], &mut out[at..]);
-        at = at + count;
-        k += 1;
+    for n in ns {
+        at += put_number(n, &mut out[at..]);
     }
     at
 }
 
 // The bytes that the words of whole records take, or the first record that goes back.
-pub fn measure(words: &[u32]) -> Measured
+pub fn measure(words: &[u32]) -> Result<usize, StoreError>
     requires { length words.now % record_words ≡ 0 }
     ensures { result ≡ measured words.now }
 {
     let mut total: usize = 0;
     let mut last: u32 = 0;
-    let mut i: usize = 0;
-    while i < words.len() {
-        let record = record_at(words, i);
+    for item in 0..words.len() / RECORD_WORDS {
+        let record = record_at(words, item * RECORD_WORDS);
         if goes_back(record.nine, last) {
-            return Measured::Back(i / RECORD_WORDS);
+            return Err(StoreError::Back(item));
         }
-        let count = counts(numbers_of(record, last));
-        total = total + count;
+        total += counts(numbers_of(record, last));
         last = record.nine.start;
-        i = i + RECORD_WORDS;
     }
-    Measured::Bytes(total)
+    Ok(total)
 }
 
 // The file of the words of whole records, none of which goes back, from the start of the memory on.
@@ -161,13 +143,9 @@ pub fn put_words(words: &[u32], out: &mut [u8])
 {
     let mut at: usize = 0;
     let mut last: u32 = 0;
-    let mut i: usize = 0;
-    while i < words.len() {
-        let record = record_at(words, i);
-        let ns = numbers_of(record, last);
-        let count = put_numbers(ns, &mut out[at..]);
-        at = at + count;
+    for item in 0..words.len() / RECORD_WORDS {
+        let record = record_at(words, item * RECORD_WORDS);
+        at += put_numbers(numbers_of(record, last), &mut out[at..]);
         last = record.nine.start;
-        i = i + RECORD_WORDS;
     }
 }

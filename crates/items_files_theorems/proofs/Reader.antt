@@ -1,4 +1,5 @@
 -- WHATEVER CALLS FOR THE READER'S NEXT ITEM GAVE CAN BE STORED: with memory for an item they give the records of the text (`calls_read_all`).
+use Rattle.std.proofs.Common.{None}
 use Prim.Native.Nat.{ℕ, zero, suc, ◌+◌, ◌-◌, ◌^◌, ◌≤◌, ◌<◌}
 use mathlib.Core.Path.{◌≡◌, refl, sym, ap, subst, ◌∙◌}
 use mathlib.Core.Bool.{Bool, true, false}
@@ -8,7 +9,6 @@ use lib.Dec.{eqb}
 use native.Mathlib.Omega.{arith}
 use Rattle.laws.proofs.Choice.{by_bool}
 use Rattle.chars.specs.Utf8.{chars, first_bad}
-use Rattle.chars.specs.declared.Utf8.TheVariants.{Good}
 use Rattle.chars.proofs.Good.{good_bytes_lem, good_scalars}
 use Rattle.refusal.specs.Refusals as refusal
 use Rattle.items.specs.Items.{Item, items, kept, depth_after, byte_count, record_words, text_words, record_of}
@@ -61,7 +61,7 @@ calls_begin (suc n) k s m =
     (λ b. (rest.0, rw (← e, b) (ap (λ (x : List (List ℕ)). take record_words l.memory.item ∷ x) rest.1)))
     (λ b. ([], rw (← e, b)))
 
-module _ (s : List ℕ) (short : length s ≤ limit) (mode : ℕ) (skip : Bool) (is : mode < 2) (good : first_bad s ≡ Good) where
+module _ (s : List ℕ) (short : length s ≤ limit) (mode : ℕ) (skip : Bool) (is : mode < 2) (good : first_bad s ≡ None) where
   text_chain : Chain 0 (record_each 0 (items_in s mode skip))
   text_chain =
       let cs : List ℕ = chars s in

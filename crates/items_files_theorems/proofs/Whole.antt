@@ -1,4 +1,5 @@
 -- WHATEVER THE WHOLE-TEXT CALL SERVED CAN BE STORED, in either mode, comments kept or skipped.
+use Rattle.std.proofs.Common.{None}
 use mathlib.Core.Path.{◌≡◌, refl, sym, ap, ◌∙◌, subst}
 use mathlib.Core.Bool.{Bool}
 use mathlib.Core.List.{List, [], ◌∷◌, ◌++◌}
@@ -7,7 +8,6 @@ use native.Mathlib.Omega.{arith}
 use lib.ListN.{length, take, drop}
 use lib.Seq.{take_at}
 use Rattle.chars.specs.Utf8.{chars, first_bad}
-use Rattle.chars.specs.declared.Utf8.TheVariants.{Good}
 use Rattle.chars.proofs.Good.{good_bytes_lem, good_scalars}
 use Rattle.refusal.specs.Refusals.{goes_back}
 use Rattle.items.specs.Items.{Item, items, kept, records, record_of, depth_after, memory_of, byte_count, record_words}
@@ -67,7 +67,7 @@ records_writable report skip cs h long =
           (kept_order skip (items report cs) (items_order report cs)) 0;
     }
 
-pub source_writable : (s : List ℕ) (mode : ℕ) (skip : Bool) → first_bad s ≡ Good → length s ≤ limit → Writable (records 0 0 (items_in s mode skip))
+pub source_writable : (s : List ℕ) (mode : ℕ) (skip : Bool) → first_bad s ≡ None → length s ≤ limit → Writable (records 0 0 (items_in s mode skip))
 source_writable s mode skip g h =
     records_writable (in_report mode) skip (chars s) (scalars_fit (chars s) (good_scalars s g))
     (omega (arith, length_bytes (chars s), ap length (good_bytes_lem s g)))

@@ -1,15 +1,14 @@
 -- An item of kind Number has its extent's bytes read as a number: no other item has that kind, and those bytes have parts. They are whole characters
 -- and no more than the text has, so that the call refuses nothing.
+use Rattle.std.proofs.Common.{None, Ok}
 use Rattle.refusal.specs.Refusals.{limit}
 use Rattle.items.specs.Items.{Item, items}
 use Rattle.items.specs.Kinds as kind
 use Rattle.items.specs.Meaning.{none, Meaning}
 use Rattle.items.proofs.Every.{Every, every_then}
-use Rattle.numbers.specs.declared.Parsed.TheVariants as parsed
 use Rattle.numbers.specs.declared.Parts.{Parts}
 use Rattle.numbers.specs.Call.{parts, number}
 use Rattle.numbers.specs.Grammar.{parse_number}
-use Rattle.chars.specs.declared.Utf8.TheVariants as verdicts
 use Rattle.chars.specs.Encode.{is_scalar, bytes_of}
 use Rattle.chars.specs.Utf8.{first_bad}
 use Rattle.chars.proofs.Good.{Scalars, encoded_good}
@@ -28,7 +27,7 @@ use borrow.Author.Tests.{le-ltb}
 
 -- a meaning of kind Number has no text, and its bytes have parts
 pub number_meant : {report : Bool} {s e : ℕ} {t : List ℕ} {m : Meaning} → Meant report s e t m → eqb m.kind kind.Number ≡ true
-    → (m.text ≡ none) × ((p : Parts) × (parse_number (bytes_of t) ≡ parsed.Is p))
+    → (m.text ≡ none) × ((p : Parts) × (parse_number (bytes_of t) ≡ Ok p))
 number_meant (token {k = n} h) k = none_of spelled_kinds n kind.Number refl (spelled_kind h) k
 number_meant (string h r) k = other refl k
 number_meant (here_string h) k = other refl k
@@ -41,7 +40,7 @@ number_meant (error n d) k = no_error_holds n kind.Number (omega arith) k
 abbrev pub NumberIn : List ℕ → Item → Type 0
 NumberIn whole i = eqb i.kind kind.Number ≡ true → (i.text ≡ none) × HasParts (between i.start i.end whole)
 
-number_is : (raw : List ℕ) (p : Parts) → length raw ≤ limit → first_bad raw ≡ verdicts.Good → parse_number raw ≡ parsed.Is p → number raw ≡ parts p
+number_is : (raw : List ℕ) (p : Parts) → length raw ≤ limit → first_bad raw ≡ None → parse_number raw ≡ Ok p → number raw ≡ parts p
 unfolding number
 number_is raw p short good is = rw (le-ltb limit (length raw) short, good, is)
 

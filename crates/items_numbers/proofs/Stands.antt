@@ -1,7 +1,8 @@
 -- One law for every kind of item: an item's extent is the bytes of some characters of the text, and its kind, detail and text come of them as `Meant`
 -- says. Who asks what an item of some kind is goes through the constructors of `Meant`, and need not walk over the readers.
-use Rattle.items.specs.declared.CharValue.{CharValue}
-use Rattle.items.specs.declared.CharValue.TheVariants.{Scalar, Wrong, WrongAt}
+use Rattle.std.proofs.Common.{Ok, Err, Result}
+use Rattle.items.specs.declared.CharError.{CharError}
+use Rattle.items.specs.declared.CharError.TheVariants.{Wrong, WrongAt}
 use Rattle.items.specs.declared.Outcome.{Outcome}
 use Rattle.items.specs.declared.Outcome.TheVariants.{Token, Str, HereStr, Word, Run, Lined, Keyword, Character, Error, ErrorAt}
 use Rattle.items.specs.Items.{Place, Item, items_of, extent_items, items}
@@ -10,10 +11,9 @@ use Rattle.items.specs.Meaning.{Text, none, Row, Meaning, means, lookup, words, 
 use Rattle.items.specs.Meaning.{character_means, meaning_of}
 use Rattle.items.specs.Readers.{Read, read_item, first_is}
 use Rattle.items.proofs.Every.{Every}
-use Rattle.numbers.specs.declared.Parsed.{Parsed}
-use Rattle.numbers.specs.declared.Parsed.TheVariants as parsed
+use Rattle.numbers.specs.declared.ParseError.TheVariants as parsed
 use Rattle.numbers.specs.declared.Parts.{Parts}
-use Rattle.numbers.specs.Grammar.{parse_number}
+use Rattle.numbers.specs.Grammar.{parse_number, Parsed}
 use Rattle.laws.specs.Quoted.{code, one_of}
 use Rattle.laws.specs.Texts.{begins, same}
 use Rattle.laws.proofs.Choice.{if_all, and_true}
@@ -55,8 +55,8 @@ pub data Meant (report : Bool) (s e : ℕ) (t : List ℕ) : Meaning → Type 0 w
   string : first_is (code "\"") (bytes_of t) ≡ true → Takes report s Str t → Meant report s e t (means kind.StringLiteral 0 (string_text s e (bytes_of t)))
   here_string : begins (spelled "#<<") (bytes_of t) ≡ true → Meant report s e t (means kind.StringLiteral 0 (here_text s e (bytes_of t)))
   character : {c : ℕ} → begins (spelled "#\\") (bytes_of t) ≡ true → leb (length (bytes_of t)) 2 ≡ false
-      → character_of report (char_inside (bytes_of t)) ≡ Scalar c → Meant report s e t (means kind.CharacterLiteral c none)
-  number : (p : Parts) → parse_number (bytes_of t) ≡ parsed.Is p → Meant report s e t (means kind.Number 0 none)
+      → character_of report (char_inside (bytes_of t)) ≡ Ok c → Meant report s e t (means kind.CharacterLiteral c none)
+  number : (p : Parts) → parse_number (bytes_of t) ≡ Ok p → Meant report s e t (means kind.Number 0 none)
   word : {k : ℕ} {x : Text} → one_of word_kinds k ≡ true → Meant report s e t (means k 0 x)
   error : (n d : ℕ) → Meant report s e t (means (kind.first_error + n) d none)
 
@@ -99,15 +99,15 @@ module _ (report : Bool) (s e : ℕ) (t : List ℕ) where
 
   run_meant : (p : Parsed) → parse_number (bytes_of t) ≡ p → M (run_means p s e (bytes_of t))
   unfolding run_means
-  run_meant (parsed.Is p) f = (number p f, tt)
-  run_meant parsed.NoNumber f = word_meant
-  run_meant parsed.ZeroDenominator f = (error kind.ZeroDenominator 0, tt)
+  run_meant (Ok p) f = (number p f, tt)
+  run_meant (Err parsed.NoNumber) f = word_meant
+  run_meant (Err parsed.ZeroDenominator) f = (error kind.ZeroDenominator 0, tt)
 
   character_meant : begins (spelled "#\\") (bytes_of t) ≡ true → leb (length (bytes_of t)) 2 ≡ false
-      → (v : CharValue) → character_of report (char_inside (bytes_of t)) ≡ v → M (character_means v)
-  character_meant f g (Scalar c) h = (character f g h, tt)
-  character_meant f g (Wrong n d) h = (error n d, tt)
-  character_meant f g (WrongAt n d p) h = (error n d, tt)
+      → (v : Result ℕ CharError) → character_of report (char_inside (bytes_of t)) ≡ v → M (character_means v)
+  character_meant f g (Ok c) h = (character f g h, tt)
+  character_meant f g (Err (Wrong n d)) h = (error n d, tt)
+  character_meant f g (Err (WrongAt n d p)) h = (error n d, tt)
 
   all_meant : (o : Outcome) → Takes report s o t → Comes (bytes_of t) o → M (meaning_of report o s e (bytes_of t))
   all_meant (Token k d) r (comes.token h) = (token h, tt)

@@ -1,12 +1,11 @@
 -- The number call: `numbers::number` ensures `answered r ≡ number t`. `parse_number` and `is_plain` ensure `r ≡` their definitions.
-use Rattle.std.specs.Prelude.{ℕ, ◌<◌, ◌≡◌, refl, true, false, List, [], ◌∷◌, length, ℤ, pos, negsuc}
+use Rattle.std.specs.Prelude.{ℕ, ◌<◌, ◌≡◌, refl, true, false, List, [], ◌∷◌, length, ℤ, pos, negsuc, None}
 use Rattle.std.proofs.Common.{sym, ◌∙◌, lt-ltb}
 use Rattle.laws.specs.Texts.{span, starts, same}
 use Rattle.laws.specs.Quoted.{code, within}
 use Rattle.refusal.specs.Refusals.{limit}
 use Rattle.chars.specs.Encode.{utf8, bytes_of, spelled}
 use Rattle.chars.specs.Utf8.{first, rest, front, first_bad, sequences}
-use Rattle.chars.specs.declared.Utf8.TheVariants.{Good}
 use Rattle.digits.specs.Digits.{digit_of, sign, uinteger, value, signed, whole_of, integer}
 use Rattle.digits.specs.declared.Int.TheVariants.{Small}
 use Rattle.numbers.specs.Reals.{exponent_marker, exponent, suffix, point_of, dotted, undotted, decimal, infnan, integral_of, rational_of, denominator, exact, or_else, ureal, real}
@@ -16,8 +15,7 @@ use Rattle.numbers.specs.Plain.{plain}
 use Rattle.numbers.specs.declared.Real.{Real}
 use Rattle.numbers.specs.declared.Real.TheVariants.{Integer, Rational}
 use Rattle.numbers.specs.declared.Parts.TheVariants.{Just, Polar}
-use Rattle.numbers.specs.declared.NumberAnswer.{NumberAnswer}
-use Rattle.numbers.specs.Call.{parts, no_number, error, refused, answered, given, number}
+use Rattle.numbers.specs.Call.{parts, no_number, error, refused, answered, given, number, NumberAnswer}
 use Rattle.numbers.proofs.Call.{answered_one}
 
 abbrev small : ℤ → Real
@@ -60,7 +58,7 @@ pub number_one_answer : (t : List ℕ) (a b : NumberAnswer) → answered a ≡ n
 number_one_answer t a b ea eb = answered_one a b (ea ∙ sym eb)
 
 -- a text of just the limit is read; a byte more is 20, also where the bytes are no text: 20 before 21
-longest_read : (t : List ℕ) → length t ≡ 4294967295 → first_bad t ≡ Good → number t ≡ given (parse_number t)
+longest_read : (t : List ℕ) → length t ≡ 4294967295 → first_bad t ≡ None → number t ≡ given (parse_number t)
 unfolding number
 longest_read t e good = simp (e, good)
 

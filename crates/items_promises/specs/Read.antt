@@ -1,12 +1,11 @@
 -- The whole-text call: `lexer::read` ensures `call (answer_of r) records' text' ≡ read_of source mode skip records text`.
-use Rattle.std.specs.Prelude.{ℕ, ◌+◌, ◌-◌, ◌<◌, ◌≤◌, ◌≡◌, refl, Bool, true, false, List, [], ◌∷◌, ◌++◌, length}
+use Rattle.std.specs.Prelude.{ℕ, ◌+◌, ◌-◌, ◌<◌, ◌≤◌, ◌≡◌, refl, Bool, true, false, List, [], ◌∷◌, ◌++◌, length, None}
 use Rattle.std.proofs.Common.{lt-ltb, le-ltb}
 use Rattle.laws.specs.Texts.{span, starts, begins, same}
 use Rattle.laws.specs.Quoted.{code, within}
 use Rattle.chars.specs.Encode.{is_scalar, utf8, width, encode, bytes_of, spelled}
 use Rattle.chars.specs.Blank.{is_blank}
 use Rattle.chars.specs.Utf8.{first, rest, front, first_bad, sequences, chars}
-use Rattle.chars.specs.declared.Utf8.TheVariants.{Good}
 use Rattle.digits.specs.Digits.{digit_of, sign, uinteger, value, fit, signed, whole_of, integer}
 use Rattle.digits.specs.Hex.{hex_digits, hex_after_plus, hex_value}
 use Rattle.numbers.specs.Reals.{exponent_marker, exponent, suffix, point_of, dotted, undotted, decimal, infnan, integral_of, rational_of, denominator, exact, or_else, ureal, real}
@@ -112,7 +111,7 @@ rows = record {
 }
 
 -- a text of just the limit is read; a byte more is 20, also where the bytes are no text: 20 before 21
-longest_read : (source recs text : List ℕ) (mode : ℕ) (skip : Bool) → mode < 2 → length source ≡ 4294967295 → first_bad source ≡ Good
+longest_read : (source recs text : List ℕ) (mode : ℕ) (skip : Bool) → mode < 2 → length source ≡ 4294967295 → first_bad source ≡ None
     → read_of source mode skip recs text ≡ deliver (items_in source mode skip) recs text
 unfolding read_of
 longest_read source recs text mode skip m e good = simp (lt-ltb mode 2 m, e, good)

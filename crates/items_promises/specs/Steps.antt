@@ -1,6 +1,6 @@
 -- The machine's steps: `steps::step` ensures `r ≡ step_of report phase (so_far raw at) c`, `first_phase` and `finish` the same of their
 -- definitions in crate `items`, and `scan` goes on by `scan_of`.
-use Rattle.std.specs.Prelude.{◌≡◌, refl, true, false, [], ◌∷◌}
+use Rattle.std.specs.Prelude.{◌≡◌, refl, true, false}
 use Rattle.laws.specs.Quoted.{code, codes, within}
 use Rattle.laws.specs.Texts.{span, starts, begins, same}
 use Rattle.chars.specs.Encode.{is_scalar, utf8, width, encode, bytes_of, spelled}

@@ -1,4 +1,5 @@
 -- From bytes back to characters: what bytes begin and end with, and digits that have a value, are the characters that the standard has there.
+use Rattle.std.proofs.Common.{Ok, Err, Result}
 use Prim.Native.Nat.{ℕ, zero, suc, ◌+◌, ◌-◌, ◌*◌, ◌^◌, ◌≤◌, ◌<◌}
 use mathlib.Core.Path.{◌≡◌, refl, sym, ap, subst, ◌∙◌}
 use mathlib.Core.Bool.{Bool, true, false}
@@ -13,12 +14,10 @@ use Rattle.laws.specs.Texts.{begins}
 use Rattle.laws.proofs.Choice.{by_bool, within_is}
 use Rattle.chars.specs.Encode.{is_scalar, utf8, bytes_of}
 use Rattle.items_coverage.proofs.Bytes.{begins_other}
-use Rattle.digits.specs.declared.Hex.{Hex}
-use Rattle.digits.specs.declared.Hex.TheVariants as hex
-use Rattle.digits.specs.Hex.{hex_value, hex_after_plus, hex_digits}
+use Rattle.digits.specs.Hex.{hex_value, hex_after_plus, hex_digits, Hex}
 use Rattle.digits.specs.Digits.{digit_of}
-use Rattle.items.specs.declared.CharValue.{CharValue}
-use Rattle.items.specs.declared.CharValue.TheVariants.{Scalar, Wrong, WrongAt}
+use Rattle.items.specs.declared.CharError.{CharError}
+use Rattle.items.specs.declared.CharError.TheVariants.{Wrong, WrongAt}
 use Rattle.items.specs.Readers.{last_is, scalar_of}
 use Rattle.items_numbers.proofs.Stands.{other}
 use Rattle.items_r7rs.specs.Converse.{SignedScalar, unsigned, after_plus}
@@ -104,12 +103,12 @@ digit_back c h =
 
 -- a value, or 0
 abbrev value_or : Hex → ℕ
-value_or (hex.Value v) = v
-value_or (hex.Wrong d p) = 0
+value_or (Ok v) = v
+value_or (Err w) = 0
 
 abbrev has_value : Hex → Bool
-has_value (hex.Value v) = true
-has_value (hex.Wrong d p) = false
+has_value (Ok v) = true
+has_value (Err w) = false
 
 digits_back : (p n : ℕ) (s : List ℕ) → has_value (hex_digits p n s) ≡ true → HexDigits n s (value_or (hex_digits p n s))
 unfolding hex_digits
@@ -143,20 +142,20 @@ digits_low done = done
 digits_low (more {c = c} (a_digit d) m) = more (at_digit (λ k. ltb k 0x80) true refl refl refl c d) (digits_low m)
 
 -- a character that some digits stand for
-abbrev pub is_value : CharValue → Bool
-is_value (Scalar c) = true
-is_value (Wrong n d) = false
-is_value (WrongAt n d p) = false
+abbrev pub is_value : Result ℕ CharError → Bool
+is_value (Ok c) = true
+is_value (Err (Wrong n d)) = false
+is_value (Err (WrongAt n d p)) = false
 
-abbrev pub char_or : CharValue → ℕ
-char_or (Scalar c) = c
-char_or (Wrong n d) = 0
-char_or (WrongAt n d p) = 0
+abbrev pub char_or : Result ℕ CharError → ℕ
+char_or (Ok c) = c
+char_or (Err (Wrong n d)) = 0
+char_or (Err (WrongAt n d p)) = 0
 
 of_value : (v : Hex) → is_value (scalar_of v) ≡ true → (has_value v ≡ true) × (is_scalar (value_or v) ≡ true) × (char_or (scalar_of v) ≡ value_or v)
 unfolding scalar_of
-of_value (hex.Value v) h = by_bool (is_scalar v) (λ e. rw e (refl, refl, refl)) (λ e. other refl (rw e at h))
-of_value (hex.Wrong d p) h = other refl h
+of_value (Ok v) h = by_bool (is_scalar v) (λ e. rw e (refl, refl, refl)) (λ e. other refl (rw e at h))
+of_value (Err w) h = other refl h
 
 -- the bytes of digits that stand for a character: a <hex scalar value>, a plus before it or not
 plus_back : (s : List ℕ) → is_value (scalar_of (hex_after_plus s)) ≡ true → HexScalar s (char_or (scalar_of (hex_after_plus s)))
@@ -180,7 +179,7 @@ signed_low : {t : List ℕ} {c : ℕ} → SignedScalar t c → Many Low t
 signed_low (unsigned s) = digits_low (scalar_digits s)
 signed_low (after_plus s) = more refl (digits_low (scalar_digits s))
 
-pub hex_back : (h : List ℕ) (x : ℕ) → scalar_of (hex_value (bytes_of h)) ≡ Scalar x → SignedScalar h x
+pub hex_back : (h : List ℕ) (x : ℕ) → scalar_of (hex_value (bytes_of h)) ≡ Ok x → SignedScalar h x
 hex_back h x e =
     let s : SignedScalar (bytes_of h) (char_or (scalar_of (hex_value (bytes_of h)))) = value_back (bytes_of h) (ap is_value e) in
     subst (λ (l : List ℕ). SignedScalar l x) (sym (low_chars h (signed_low s))) (subst (SignedScalar (bytes_of h)) (ap char_or e) s)

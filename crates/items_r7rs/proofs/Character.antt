@@ -1,4 +1,5 @@
 -- <character>: after `#\` the next character is taken whatever it is, and then all up to a delimiter; what that spells is the character.
+use Rattle.std.proofs.Common.{Ok}
 use Prim.Native.Nat.{ℕ, ◌<◌}
 use mathlib.Core.Path.{◌≡◌, refl, ◌∙◌}
 use mathlib.Core.Bool.{Bool, true, false, ◌||◌}
@@ -17,7 +18,6 @@ use Rattle.chars.specs.Utf8.{front, char}
 use Rattle.chars.proofs.Width.{width-utf8}
 use Rattle.chars.proofs.Round.{back}
 use Rattle.items.specs.declared.HashKind.TheVariants.{Decided}
-use Rattle.items.specs.declared.CharValue.TheVariants.{Scalar}
 use Rattle.items.specs.declared.Outcome.TheVariants as outcome
 use Rattle.items.specs.Classes.{after_hash, ends_hash, in_hash, stays_hash}
 use Rattle.items.specs.Meaning.{lookup, lower, char_names, unnamed, only_one, hex_named, spelled_out, character_of, char_inside, none, Row}
@@ -56,8 +56,8 @@ module _ (report : Bool) (at c : ℕ) {t cs : List ℕ} where
       ∙ (hash_ends report _ e ∙ rw (eats-whole at (code "#" ∷ code "\\" ∷ c ∷ t)) (hash_decided report _ cs outcome.Character (character_kind c t))))
 
 -- an item that spells a character
-module _ (report : Bool) (c : ℕ) {t cs : List ℕ} (v : ℕ) (m : Many Staying t) (e : Ends hash_delimiters cs) (spells : character_of report (bytes_of (c ∷ t)) ≡ Scalar v) where
-  spelled_so : character_of report (char_inside (bytes_of (code "#" ∷ code "\\" ∷ c ∷ t))) ≡ Scalar v
+module _ (report : Bool) (c : ℕ) {t cs : List ℕ} (v : ℕ) (m : Many Staying t) (e : Ends hash_delimiters cs) (spells : character_of report (bytes_of (c ∷ t)) ≡ Ok v) where
+  spelled_so : character_of report (char_inside (bytes_of (code "#" ∷ code "\\" ∷ c ∷ t))) ≡ Ok v
   spelled_so = rw (bytes_ascii (code "#") (code "\\" ∷ c ∷ t) refl, bytes_ascii (code "\\") (c ∷ t) refl) spells
 
   read_character : ReadAs report (code "#" ∷ code "\\" ∷ c ∷ t) cs kind.CharacterLiteral v nothing
@@ -104,18 +104,18 @@ beyond_unnamed (all_high {b = b} {bs = bs} h m) =
 alone_back : (c : ℕ) → is_scalar c ≡ true → front (utf8 c) ≡ char c (width c)
 alone_back c h = rw append-nil at (back c [] h)
 
-is_one : (report : Bool) (c : ℕ) → is_scalar c ≡ true → only_one report (front (utf8 c)) (utf8 c) ≡ Scalar c
+is_one : (report : Bool) (c : ℕ) → is_scalar c ≡ true → only_one report (front (utf8 c)) (utf8 c) ≡ Ok c
 is_one report c h = rw (alone_back c h, width-utf8 c) (rw (eq-eqb (width c) (width c) refl))
 
-low_out : (report : Bool) (c : ℕ) → is_scalar c ≡ true → ltb c 0x80 ≡ true → spelled_out report (c ∷ []) ≡ Scalar c
+low_out : (report : Bool) (c : ℕ) → is_scalar c ≡ true → ltb c 0x80 ≡ true → spelled_out report (c ∷ []) ≡ Ok c
 unfolding spelled_out
 low_out report c h l = rw (and_no (first_is (code "u") (c ∷ []) || first_is (code "x") (c ∷ []))) (rw (utf8_low c l) at (is_one report c h))
 
-high_out : (report : Bool) (c : ℕ) → is_scalar c ≡ true → ltb c 0x80 ≡ false → spelled_out report (utf8 c) ≡ Scalar c
+high_out : (report : Bool) (c : ℕ) → is_scalar c ≡ true → ltb c 0x80 ≡ false → spelled_out report (utf8 c) ≡ Ok c
 unfolding spelled_out
 high_out report c h l = rw (high_first (code "u") refl (utf8_high c l), high_first (code "x") refl (utf8_high c l)) (is_one report c h)
 
-any_character : (report : Bool) (c : ℕ) → is_scalar c ≡ true → character_of report (bytes_of (c ∷ [])) ≡ Scalar c
+any_character : (report : Bool) (c : ℕ) → is_scalar c ≡ true → character_of report (bytes_of (c ∷ [])) ≡ Ok c
 unfolding character_of bytes_of
 any_character report c h =
     rw (append-nil (utf8 c))
@@ -124,7 +124,7 @@ any_character report c h =
     (λ l. rw (beyond_unnamed (utf8_high c l)) (high_out report c h l)))
 
 -- <character name>
-name_character : (report : Bool) {t : List ℕ} {c : ℕ} → CharacterName t c → character_of report (bytes_of t) ≡ Scalar c
+name_character : (report : Bool) {t : List ℕ} {c : ℕ} → CharacterName t c → character_of report (bytes_of t) ≡ Ok c
 unfolding character_of lookup char_names same bytes_of utf8
 name_character report named_alarm = refl
 name_character report named_backspace = refl
@@ -141,7 +141,7 @@ x_unnamed : (l : List ℕ) → lookup char_names (code "x" ∷ l) unnamed ≡ un
 unfolding lookup char_names same bytes_of utf8
 x_unnamed l = refl
 
-hex_character : (report : Bool) {h : List ℕ} {c : ℕ} → HexScalar h c → character_of report (bytes_of (code "x" ∷ h)) ≡ Scalar c
+hex_character : (report : Bool) {h : List ℕ} {c : ℕ} → HexScalar h c → character_of report (bytes_of (code "x" ∷ h)) ≡ Ok c
 unfolding character_of spelled_out hex_named
 hex_character report {h} s =
     rw (bytes_ascii (code "x") h refl, digits_bytes (scalar_digits s)) (rw (x_unnamed (map lower h)) (rw (lt-ltb 1 (length (code "x" ∷ h)) (omega (arith, scalar_some s))) (rw (scalar_of_lem s))))
@@ -168,7 +168,7 @@ name_letters named_return = first_and (many_all in_hash stays_hash (codes "eturn
 name_letters named_space = first_and (many_all in_hash stays_hash (codes "pace") refl)
 name_letters named_tab = first_and (many_all in_hash stays_hash (codes "ab") refl)
 
-letters_read : (report : Bool) (cs : List ℕ) {t : List ℕ} (c : ℕ) → Letters t → character_of report (bytes_of t) ≡ Scalar c → Ends hash_delimiters cs
+letters_read : (report : Bool) (cs : List ℕ) {t : List ℕ} (c : ℕ) → Letters t → character_of report (bytes_of t) ≡ Ok c → Ends hash_delimiters cs
     → ReadAs report (code "#" ∷ code "\\" ∷ t) cs kind.CharacterLiteral c nothing
 letters_read report cs c (first_and {c = x} m) h e = read_character report x c m e h
 

@@ -1,4 +1,5 @@
 -- Hexadecimal digits: they are ASCII, and their value is the standard's.
+use Rattle.std.proofs.Common.{Ok}
 use Prim.Native.Nat.{ℕ, ◌+◌, ◌-◌, ◌*◌, ◌^◌, ◌≤◌, ◌<◌}
 use mathlib.Core.Path.{◌≡◌, refl}
 use mathlib.Core.Bool.{true, false}
@@ -13,12 +14,10 @@ use Rattle.laws.specs.Quoted.{codes, code, within}
 use Rattle.chars.specs.Blank.{is_blank}
 use Rattle.chars.specs.Encode.{is_scalar, bytes_of}
 use Rattle.chars.proofs.Scalar.{scalar_true}
-use Rattle.digits.specs.declared.Hex.TheVariants as hex
 use Rattle.digits.specs.Hex.{hex_value, hex_digits}
 use Rattle.digits.specs.Digits.{digit_of}
 use Rattle.items.specs.declared.Quotes.{Quotes}
 use Rattle.items.specs.declared.Quotes.TheVariants.{Double, Lines}
-use Rattle.items.specs.declared.CharValue.TheVariants.{Scalar}
 use Rattle.items.specs.Classes.{stops_hex, in_hex, ends_hash, in_hash, digit, stays_hash}
 use Rattle.items.specs.Readers.{scalar_of}
 use Rattle.items_r7rs.specs.Escape.{digits, HexDigit, decimal, lower, upper, HexDigits, no_more, and_more, HexScalar, scalar}
@@ -49,7 +48,7 @@ grows : {n v : ℕ} {t : List ℕ} → HexDigits n t v → n ≤ v
 grows (no_more {n = n}) = le_refl n
 grows (and_more {n = n} {d = d} h m) = omega (arith, grows m)
 
-digits_value : (p : ℕ) {n v : ℕ} {t : List ℕ} → HexDigits n t v → v < 2 ^ 32 → hex_digits p n t ≡ hex.Value v
+digits_value : (p : ℕ) {n v : ℕ} {t : List ℕ} → HexDigits n t v → v < 2 ^ 32 → hex_digits p n t ≡ Ok v
 unfolding hex_digits
 digits_value p no_more l = refl
 digits_value p (and_more {n = n} {c = c} {d = d} h m) l =
@@ -59,7 +58,7 @@ digits_value p (and_more {n = n} {c = c} {d = d} h m) l =
 scalar_small : (v : ℕ) → is_scalar v ≡ true → v < 2 ^ 32
 scalar_small v h = ⊎_elim (λ e. omega arith) (λ e. omega arith) (scalar_true v h)
 
-pub scalar_value : {h : List ℕ} {v : ℕ} → HexScalar h v → hex_value h ≡ hex.Value v
+pub scalar_value : {h : List ℕ} {v : ℕ} → HexScalar h v → hex_value h ≡ Ok v
 unfolding hex_value
 scalar_value (scalar {c = c} {v = v} (and_more x m) s) =
     rw (at_digit (λ k. eqb k (code "+")) false refl refl refl c x) (digits_value 0 (and_more x m) (scalar_small v s))
@@ -67,7 +66,7 @@ scalar_value (scalar {c = c} {v = v} (and_more x m) s) =
 pub is_scalar_lem : {h : List ℕ} {v : ℕ} → HexScalar h v → is_scalar v ≡ true
 is_scalar_lem (scalar m s) = s
 
-pub scalar_of_lem : {h : List ℕ} {v : ℕ} → HexScalar h v → scalar_of (hex_value h) ≡ Scalar v
+pub scalar_of_lem : {h : List ℕ} {v : ℕ} → HexScalar h v → scalar_of (hex_value h) ≡ Ok v
 unfolding scalar_of
 scalar_of_lem s = rw (scalar_value s) (rw (is_scalar_lem s))
 

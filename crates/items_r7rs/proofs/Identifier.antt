@@ -1,12 +1,13 @@
 -- <identifier>, but for those in vertical lines: words, and words that start as a number run.
+use Rattle.std.proofs.Common.{Err}
 use Prim.Native.Nat.{ℕ, ◌+◌}
 use mathlib.Core.Path.{◌≡◌, refl, ◌∙◌}
 use mathlib.Core.Bool.{Bool, true}
-use mathlib.Core.List.{List, [], ◌∷◌}
+use mathlib.Core.List.{List, ◌∷◌}
 use Rattle.laws.specs.Quoted.{codes, code, one_of}
 use Rattle.chars.specs.Blank.{is_blank}
 use Rattle.chars.specs.Encode.{bytes_of}
-use Rattle.numbers.specs.declared.Parsed.TheVariants as parsed
+use Rattle.numbers.specs.declared.ParseError.TheVariants as parsed
 use Rattle.numbers.specs.Grammar.{parse_number}
 use Rattle.items.specs.declared.Outcome.TheVariants.{Word}
 use Rattle.items.specs.Classes.{breaks_word, in_word}
@@ -64,7 +65,7 @@ module _ (report : Bool) where
     spells = λ at. spells_whole at (c ∷ t);
   }
 
-  led_word : {t : List ℕ} (cs : List ℕ) → Led t → Unsplit t → parse_number (bytes_of t) ≡ parsed.NoNumber
+  led_word : {t : List ℕ} (cs : List ℕ) → Led t → Unsplit t → parse_number (bytes_of t) ≡ Err parsed.NoNumber
       → word_kind (bytes_of t) ≡ kind.Identifier → Ends delimiters cs → ReadAs report t cs kind.Identifier 0 (bytes (bytes_of t))
   led_word cs (led {c = c} {t = t} s m) u n k e = record {
     text = λ at. source at (at + byte_count (c ∷ t));
@@ -74,6 +75,6 @@ module _ (report : Bool) where
 
   -- <peculiar identifier>. "Note that +i, -i and <infnan> below are exceptions to the <peculiar identifier> rule; they are parsed as
   -- numbers, not identifiers": so is any text that is also a number
-  pub peculiar_identifier : {t : List ℕ} (cs : List ℕ) → Peculiar t → Unsplit t → parse_number (bytes_of t) ≡ parsed.NoNumber
+  pub peculiar_identifier : {t : List ℕ} (cs : List ℕ) → Peculiar t → Unsplit t → parse_number (bytes_of t) ≡ Err parsed.NoNumber
       → word_kind (bytes_of t) ≡ kind.Identifier → Ends delimiters cs → ReadAs report t cs kind.Identifier 0 (bytes (bytes_of t))
   peculiar_identifier cs p u n k e = led_word cs (peculiar_led p) u n k e

@@ -1,5 +1,6 @@
 -- What is read as a string is one: from the opening quote on, element by element, up to the first that the standard has not, or the closing quote.
 -- `From` says of a phase what the characters are that follow until a string is read; a step puts its character before them.
+use Rattle.std.proofs.Common.{Err, Ok, Result}
 use Prim.Native.Nat.{ℕ}
 use mathlib.Core.Path.{◌≡◌, refl, sym, ap, subst, ◌∙◌}
 use mathlib.Core.Bool.{Bool, true, false}
@@ -12,8 +13,8 @@ use Rattle.laws.specs.Quoted.{codes, code, one_of}
 use Rattle.laws.proofs.Choice.{by_bool, if_all, if_is}
 use Rattle.chars.specs.Encode.{utf8, bytes_of}
 use Rattle.digits.specs.Hex.{hex_value}
-use Rattle.items.specs.declared.CharValue.{CharValue}
-use Rattle.items.specs.declared.CharValue.TheVariants.{Scalar, Wrong, WrongAt}
+use Rattle.items.specs.declared.CharError.{CharError}
+use Rattle.items.specs.declared.CharError.TheVariants.{Wrong, WrongAt}
 use Rattle.items.specs.declared.Next.{Next}
 use Rattle.items.specs.declared.Next.TheVariants.{Eat, Stop}
 use Rattle.items.specs.declared.Outcome.{Outcome}
@@ -98,7 +99,7 @@ pub record Digits (closer : ℕ) (ds t : List ℕ) : Type 0 where
   pub whole : t ≡ digits ++ (closer ∷ rest)
   pub inside : Inside rest
   pub value : ℕ
-  pub stands : scalar_of (hex_value (ds ++ bytes_of digits)) ≡ Scalar value
+  pub stands : scalar_of (hex_value (ds ++ bytes_of digits)) ≡ Ok value
 
 -- spaces, a newline, and the next line
 pub record Broken (t : List ℕ) : Type 0 where
@@ -247,9 +248,9 @@ module _ (i : SoFar) (c : ℕ) where
     abbrev Hexed : Next → Type 0
     Hexed = Back (ph.Hex Double closer from n) b c
 
-    back_close : c ≡ closer → (v : CharValue) → scalar_of (hex_value (drop n b)) ≡ v → (to : ℕ) → Hexed (close_hex report v Double from n to i)
+    back_close : c ≡ closer → (v : Result ℕ CharError) → scalar_of (hex_value (drop n b)) ≡ v → (to : ℕ) → Hexed (close_hex report v Double from n to i)
     unfolding bytes_of
-    back_close e (Scalar x) f to = λ t h w ds whole long. record {
+    back_close e (Ok x) f to = λ t h w ds whole long. record {
       digits = [];
       rest = t;
       whole = ap (λ (n : ℕ). n ∷ t) e;
@@ -257,8 +258,8 @@ module _ (i : SoFar) (c : ℕ) where
       value = x;
       stands = ap (λ (l : List ℕ). scalar_of (hex_value l)) (append-nil ds ∙ sym (ap (drop n) whole ∙ drop_at w ds n long)) ∙ f;
     }
-    back_close e (Wrong m d) f to = λ t h. other refl h
-    back_close e (WrongAt m d p) f to = λ t h. other (if_all (λ (o : Outcome). is_str o ≡ false) report refl refl) h
+    back_close e (Err (Wrong m d)) f to = λ t h. other refl h
+    back_close e (Err (WrongAt m d p)) f to = λ t h. other (if_all (λ (o : Outcome). is_str o ≡ false) report refl refl) h
 
     one_more : (t : List ℕ) (w ds : List ℕ) → b ≡ w ++ ds → Digits closer (ds ++ utf8 c) t → Digits closer ds (c ∷ t)
     unfolding bytes_of

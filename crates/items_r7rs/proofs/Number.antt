@@ -1,4 +1,5 @@
 -- Numbers: a number run goes on to a delimiter, and is one Number where its bytes are a number.
+use Rattle.std.proofs.Common.{Ok}
 use Prim.Native.Nat.{ℕ, ◌<◌}
 use mathlib.Core.Path.{◌≡◌, refl, ap, ◌∙◌}
 use mathlib.Core.Bool.{Bool, true, false}
@@ -10,7 +11,6 @@ use Rattle.chars.specs.Blank.{is_blank}
 use Rattle.chars.specs.Encode.{bytes_of}
 use Rattle.numbers.specs.declared.Parts.{Parts}
 use Rattle.numbers.specs.declared.Parts.TheVariants.{Just}
-use Rattle.numbers.specs.declared.Parsed.TheVariants as parsed
 use Rattle.numbers.specs.Grammar.{just_of, zero_parts, judged, parse_number}
 use Rattle.items.specs.declared.Outcome.TheVariants.{Run}
 use Rattle.items.specs.Classes.{starts_run, first_of, stays_run, ends_run, in_run, after_hash, number, stops_run}
@@ -39,18 +39,18 @@ run_stays report i cs done = refl
 run_stays report i cs (more {c = c} h m) = rw (h, read_run) (run_stays report (eat i c) cs m)
 
 -- every delimiter ends a run that is a number; a vertical line no other
-stops_run_lem : (report : Bool) (raw : List ℕ) {p : Parts} → parse_number raw ≡ parsed.Is p → (c : ℕ) → one_of (number_delimiters report) c ≡ true → in_run report raw c ≡ stops_run
+stops_run_lem : (report : Bool) (raw : List ℕ) {p : Parts} → parse_number raw ≡ Ok p → (c : ℕ) → one_of (number_delimiters report) c ≡ true → in_run report raw c ≡ stops_run
 unfolding in_run stays_run ends_run is_blank
 stops_run_lem true raw n c h = at_one_of (in_run true raw) stops_run (number_delimiters true) c (rw n) h
 stops_run_lem false raw n c h = at_one_of (in_run false raw) stops_run (number_delimiters false) c refl h
 
-run_stops : (report : Bool) (i : SoFar) {p : Parts} {cs : List ℕ} → parse_number i.bytes ≡ parsed.Is p → Ends (number_delimiters report) cs → read_run report i cs ≡ got Run i cs
+run_stops : (report : Bool) (i : SoFar) {p : Parts} {cs : List ℕ} → parse_number i.bytes ≡ Ok p → Ends (number_delimiters report) cs → read_run report i cs ≡ got Run i cs
 unfolding read_run
 run_stops report i n at_end = refl
 run_stops report i n (before {c = c} h) = rw (stops_run_lem report i.bytes n c h, read_run)
 
 -- the bytes of a run are those of its characters
-run_number : (at : ℕ) (t : List ℕ) {p : Parts} → parse_number (bytes_of t) ≡ parsed.Is p → parse_number (eats (so_far [] at) t).bytes ≡ parsed.Is p
+run_number : (at : ℕ) (t : List ℕ) {p : Parts} → parse_number (bytes_of t) ≡ Ok p → parse_number (eats (so_far [] at) t).bytes ≡ Ok p
 run_number at t n = ap (λ (i : SoFar). parse_number i.bytes) (eats-whole at t) ∙ n
 
 pub begins_run : (c : ℕ) → starts_run c ≡ true → first_of c ≡ number
@@ -63,7 +63,7 @@ run_nonblank c h = at_one_of is_blank false (codes "+-.0123456789") c refl h
 
 -- a run whose bytes are a number to crate numbers' grammar
 module _ (report : Bool) (c : ℕ) {t cs : List ℕ} where
-  pub number_run : starts_run c ≡ true → Many Stays t → (p : Parts) → parse_number (bytes_of (c ∷ t)) ≡ parsed.Is p → Ends (number_delimiters report) cs
+  pub number_run : starts_run c ≡ true → Many Stays t → (p : Parts) → parse_number (bytes_of (c ∷ t)) ≡ Ok p → Ends (number_delimiters report) cs
       → ReadAs report (c ∷ t) cs kind.Number 0 nothing
   unfolding read_item run_means
   number_run s m p n e = record {
@@ -76,7 +76,7 @@ module _ (report : Bool) (c : ℕ) {t cs : List ℕ} where
   }
 
   -- and one with the prefix of a radix, #x, #d, #o or #b
-  pub prefixed_run : one_of (codes "xXdDoObB") c ≡ true → Many Stays t → (p : Parts) → parse_number (bytes_of (code "#" ∷ c ∷ t)) ≡ parsed.Is p → Ends (number_delimiters report) cs
+  pub prefixed_run : one_of (codes "xXdDoObB") c ≡ true → Many Stays t → (p : Parts) → parse_number (bytes_of (code "#" ∷ c ∷ t)) ≡ Ok p → Ends (number_delimiters report) cs
       → ReadAs report (code "#" ∷ c ∷ t) cs kind.Number 0 nothing
   unfolding read_item first_of starts_run read_hash after_hash run_means is_blank
   prefixed_run s m p n e = record {
@@ -90,7 +90,7 @@ module _ (report : Bool) (c : ℕ) {t cs : List ℕ} where
 
 -- ---- <real 10>
 
-pub real_number : {t : List ℕ} → RealText t → (p : Parts) × (parse_number (bytes_of t) ≡ parsed.Is p)
+pub real_number : {t : List ℕ} → RealText t → (p : Parts) × (parse_number (bytes_of t) ≡ Ok p)
 unfolding judged just_of zero_parts
 real_number (a_real s u {b = b} g x) =
     let h = shape x in
@@ -124,7 +124,7 @@ real_run : {t : List ℕ} → RealText t → (0 < length t) × (starts_run (get_
 real_run (a_real s u g x) = signed_run g (shape x)
 real_run (an_infnan x) = infnan_run x
 
-first_run : (report : Bool) (t cs : List ℕ) → 0 < length t → starts_run (get_or t 0 0) ≡ true → Many Stays t → (p : Parts) → parse_number (bytes_of t) ≡ parsed.Is p
+first_run : (report : Bool) (t cs : List ℕ) → 0 < length t → starts_run (get_or t 0 0) ≡ true → Many Stays t → (p : Parts) → parse_number (bytes_of t) ≡ Ok p
     → Ends (number_delimiters report) cs → ReadAs report t cs kind.Number 0 nothing
 first_run report [] cs l s m p n e = absurd (omega arith)
 first_run report (c ∷ t) cs l s (more h m) p n e = number_run report c s m p n e

@@ -9,7 +9,7 @@ use lib.Seq.{take_all, take_at}
 use lib.Dec.{eqb, leb, ltb}
 use native.Mathlib.Omega.{arith}
 use borrow.Author.Tests.{eqb-true, leb-true, lt-ltb, ltb-true}
-use Rattle.std.specs.Prelude.{if◌then◌else◌}
+use Rattle.std.specs.Prelude.{if◌then◌else◌, Err, Ok, Result}
 use Rattle.laws.specs.Quoted.{codes, code, within}
 use Rattle.laws.specs.Texts.{same}
 use Rattle.laws.proofs.Choice.{by_bool, and_true}
@@ -21,8 +21,8 @@ use Rattle.chars.proofs.Chars.{CharAt, char_at}
 use Rattle.items_coverage.proofs.Bytes.{first_char}
 use Rattle.digits.specs.Hex.{hex_value}
 use Rattle.laws.specs.Letters.{lower}
-use Rattle.items.specs.declared.CharValue.{CharValue}
-use Rattle.items.specs.declared.CharValue.TheVariants.{Scalar, Wrong, WrongAt}
+use Rattle.items.specs.declared.CharError.{CharError}
+use Rattle.items.specs.declared.CharError.TheVariants.{Wrong, WrongAt}
 use Rattle.items.specs.Items.{Item, items}
 use Rattle.items.specs.Kinds as kind
 use Rattle.items.specs.Meaning.{Meaning, Row, lookup, char_names, unnamed, before_delimiter, nameless, only_one, later, hex_named, spelled_out, character_of, char_inside}
@@ -137,14 +137,14 @@ unfolding bytes_of
 first_of_case x l z [] h = other z h
 first_of_case x l z (c ∷ r) h = (r, ap (λ (n : ℕ). n ∷ r) (first_char x l c (bytes_of r) (eqb-true (get_or (utf8 c ++ bytes_of r) 0 0) x h)))
 
-later_scalar : (n : ℕ) (v : CharValue) (c : ℕ) → later n v ≡ Scalar c → v ≡ Scalar c
-later_scalar n (Scalar x) c e = e
-later_scalar n (Wrong m d) c e = e
-later_scalar n (WrongAt m d p) c e = other refl (ap is_value e)
+later_scalar : (n : ℕ) (v : Result ℕ CharError) (c : ℕ) → later n v ≡ Ok c → v ≡ Ok c
+later_scalar n (Ok x) c e = e
+later_scalar n (Err (Wrong m d)) c e = e
+later_scalar n (Err (WrongAt m d p)) c e = other refl (ap is_value e)
 
 -- what stands between `u{` and the last byte, which must be `}`
-abbrev braced : List ℕ → CharValue
-braced t = if last_is (code "}") t then later 2 (scalar_of (hex_value (take (length t - 3) (drop 2 t)))) else Wrong kind.UnclosedHexEscape (code "}")
+abbrev braced : List ℕ → Result ℕ CharError
+braced t = if last_is (code "}") t then later 2 (scalar_of (hex_value (take (length t - 3) (drop 2 t)))) else Err (Wrong kind.UnclosedHexEscape (code "}"))
 
 module _ (c : ℕ) where
   abbrev Is : List ℕ → Type 0
@@ -154,12 +154,12 @@ module _ (c : ℕ) where
   after_letter : (x : ℕ) (q : List ℕ) → ltb x 0x80 ≡ true → (t : List ℕ) → t ≡ x ∷ q → drop 1 (bytes_of t) ≡ bytes_of q
   after_letter x q l t e = ap (λ (t : List ℕ). drop 1 (bytes_of t)) e ∙ ap (drop 1) (bytes_ascii x q l)
 
-  scalar_back : (n : ℕ) (q : List ℕ) → later n (scalar_of (hex_value (bytes_of q))) ≡ Scalar c → SignedScalar q c
+  scalar_back : (n : ℕ) (q : List ℕ) → later n (scalar_of (hex_value (bytes_of q))) ≡ Ok c → SignedScalar q c
   scalar_back n q e = hex_back q c (later_scalar n (scalar_of (hex_value (bytes_of q))) c e)
 
   -- between braces: `u{`, some digits and `}`
   braced_spells : (q : List ℕ) → last_is (code "}") (bytes_of (code "u" ∷ code "{" ∷ q)) ≡ true
-      → later 2 (scalar_of (hex_value (take (length (bytes_of (code "u" ∷ code "{" ∷ q)) - 3) (drop 2 (bytes_of (code "u" ∷ code "{" ∷ q)))))) ≡ Scalar c
+      → later 2 (scalar_of (hex_value (take (length (bytes_of (code "u" ∷ code "{" ∷ q)) - 3) (drop 2 (bytes_of (code "u" ∷ code "{" ∷ q)))))) ≡ Ok c
       → Is (code "u" ∷ code "{" ∷ q)
   unfolding bytes_of utf8
   braced_spells [] h e = other refl h
@@ -175,38 +175,38 @@ module _ (c : ℕ) where
       (inr (foreign.braced f.0 (scalar_back 2 f.0 (ap (λ (l : List ℕ). later 2 (scalar_of (hex_value l))) (sym inside) ∙ e))))
 
   -- `u`, and what follows it
-  unicode_is : (q : List ℕ) → hex_named (bytes_of (code "u" ∷ q)) ≡ Scalar c → Is (code "u" ∷ q)
+  unicode_is : (q : List ℕ) → hex_named (bytes_of (code "u" ∷ q)) ≡ Ok c → Is (code "u" ∷ q)
   unfolding hex_named bytes_of utf8
   unicode_is q e =
       by_bool (first_is (code "{") (bytes_of q))
       (λ f. let g = first_of_case (code "{") (omega arith) refl q f in
       subst (λ (l : List ℕ). Is (code "u" ∷ l)) (sym g.1)
-      (go g.0 (subst (λ (l : List ℕ). braced (bytes_of (code "u" ∷ l)) ≡ Scalar c) g.1 (rw f at e))))
+      (go g.0 (subst (λ (l : List ℕ). braced (bytes_of (code "u" ∷ l)) ≡ Ok c) g.1 (rw f at e))))
       (λ f. inr (foreign.unicode (scalar_back 1 q (rw f at e))))
     where
-      go : (q : List ℕ) → braced (bytes_of (code "u" ∷ code "{" ∷ q)) ≡ Scalar c → Is (code "u" ∷ code "{" ∷ q)
+      go : (q : List ℕ) → braced (bytes_of (code "u" ∷ code "{" ∷ q)) ≡ Ok c → Is (code "u" ∷ code "{" ∷ q)
       go q e =
           by_bool (last_is (code "}") (bytes_of (code "u" ∷ code "{" ∷ q)))
           (λ f. braced_spells q f (rw f at e))
           (λ f. other refl (ap is_value (rw f at e)))
 
-  unicode_spells : (r : List ℕ) → first_is (code "u") (bytes_of r) ≡ true → hex_named (bytes_of r) ≡ Scalar c → Spells (bytes_of r) c
+  unicode_spells : (r : List ℕ) → first_is (code "u") (bytes_of r) ≡ true → hex_named (bytes_of r) ≡ Ok c → Spells (bytes_of r) c
   unicode_spells r h e =
       let f = first_of_case (code "u") (omega arith) refl r h in
-      record { chars = r; bytes = refl; is = subst Is (sym f.1) (unicode_is f.0 (subst (λ (t : List ℕ). hex_named (bytes_of t) ≡ Scalar c) f.1 e)) }
+      record { chars = r; bytes = refl; is = subst Is (sym f.1) (unicode_is f.0 (subst (λ (t : List ℕ). hex_named (bytes_of t) ≡ Ok c) f.1 e)) }
 
-  hex_spells : (r : List ℕ) → first_is (code "x") (bytes_of r) ≡ true → later 1 (scalar_of (hex_value (drop 1 (bytes_of r)))) ≡ Scalar c → Spells (bytes_of r) c
+  hex_spells : (r : List ℕ) → first_is (code "x") (bytes_of r) ≡ true → later 1 (scalar_of (hex_value (drop 1 (bytes_of r)))) ≡ Ok c → Spells (bytes_of r) c
   hex_spells r h e =
       let f = first_of_case (code "x") (omega arith) refl r h in
       let inside : drop 1 (bytes_of r) ≡ bytes_of f.0 = after_letter (code "x") f.0 refl r f.1 in
-      let v : later 1 (scalar_of (hex_value (bytes_of f.0))) ≡ Scalar c = ap (λ (t : List ℕ). later 1 (scalar_of (hex_value t))) (sym inside) ∙ e in
+      let v : later 1 (scalar_of (hex_value (bytes_of f.0))) ≡ Ok c = ap (λ (t : List ℕ). later 1 (scalar_of (hex_value t))) (sym inside) ∙ e in
       record { chars = r; bytes = refl; is = subst Is (sym f.1) (go (scalar_back 1 f.0 v)) }
     where
       go : {q : List ℕ} → SignedScalar q c → Is (code "x" ∷ q)
       go (unsigned s) = inl (by_hex s)
       go (after_plus s) = inr (foreign.plus s)
 
-  hexed : (r : List ℕ) → (first_is (code "u") (bytes_of r) || first_is (code "x") (bytes_of r)) ≡ true → hex_named (bytes_of r) ≡ Scalar c → Spells (bytes_of r) c
+  hexed : (r : List ℕ) → (first_is (code "u") (bytes_of r) || first_is (code "x") (bytes_of r)) ≡ true → hex_named (bytes_of r) ≡ Ok c → Spells (bytes_of r) c
   unfolding hex_named
   hexed r h e = by_bool (first_is (code "u") (bytes_of r)) (λ u. unicode_spells r u e) (λ u. hex_spells r (rw u at h) (rw u at e))
 
@@ -216,11 +216,11 @@ module _ (c : ℕ) where
   unfolding nameless
   nameless_none report t = by_bool (report && ltb (suc (before_delimiter (drop 1 t))) (length t)) (λ e. rw e) (λ e. rw e)
 
-  one_spells : (report : Bool) (bs : List ℕ) (F : Front) → front bs ≡ F → only_one report F bs ≡ Scalar c → Spells bs c
+  one_spells : (report : Bool) (bs : List ℕ) (F : Front) → front bs ≡ F → only_one report F bs ≡ Ok c → Spells bs c
   unfolding bytes_of
   one_spells report bs (char x n) f q =
       by_bool (eqb n (length bs))
-      (λ k. let v : Scalar x ≡ Scalar c = rw k at q in
+      (λ k. let v : Ok x ≡ Ok c = rw k at q in
       let o : x ≡ c = ap char_or v in
       let all : n ≡ length bs = eqb-true n (length bs) k in
       let a : CharAt bs 0 x (0 + n) = char_at bs 0 x (0 + n) (sym (ap (placed 0) f)) (omega arith) in
@@ -233,7 +233,7 @@ module _ (c : ℕ) where
 
   -- ---- all of them
 
-  out_spells : (report : Bool) (r : List ℕ) → spelled_out report (bytes_of r) ≡ Scalar c → Spells (bytes_of r) c
+  out_spells : (report : Bool) (r : List ℕ) → spelled_out report (bytes_of r) ≡ Ok c → Spells (bytes_of r) c
   unfolding spelled_out
   out_spells report r e =
       let bs : List ℕ = bytes_of r in
@@ -247,13 +247,13 @@ module _ (c : ℕ) where
   named r low l f o (inl g) = other f (ap (λ (n : ℕ). eqb n unnamed) g)
   named r low l f o (inr g) = named_spells r g.0 c (l ∙ g.1) (subst (CharacterName g.0) o g.2)
 
-  pub spells : (report : Bool) (r : List ℕ) → character_of report (bytes_of r) ≡ Scalar c → Spells (bytes_of r) c
+  pub spells : (report : Bool) (r : List ℕ) → character_of report (bytes_of r) ≡ Ok c → Spells (bytes_of r) c
   unfolding character_of
   spells report r e =
       let low : List ℕ = map meaning.lower (bytes_of r) in
       by_bool (eqb (lookup char_names low unnamed) unnamed)
       (λ f. out_spells report r (rw f at e))
-      (λ f. let v : Scalar (lookup char_names low unnamed) ≡ Scalar c = rw f at e in named r low refl f (ap char_or v) (found char_names named_rows low))
+      (λ f. let v : Ok (lookup char_names low unnamed) ≡ Ok c = rw f at e in named r low refl f (ap char_or v) (found char_names named_rows low))
 
 character_meant : {report : Bool} {s e : ℕ} {t : List ℕ} {m : Meaning} → Meant report s e t m → eqb m.kind kind.CharacterLiteral ≡ true
     → (u : List ℕ) × (bytes_of t ≡ bytes_of u) × (CharacterText u m.detail ⊎ ForeignCharacter u m.detail)

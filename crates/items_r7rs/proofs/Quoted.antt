@@ -8,14 +8,13 @@ use lib.ListN.{length, drop}
 use lib.Seq.{drop_at}
 use lib.Dec.{eqb, ltb}
 use borrow.Author.Tests.{eqb-true}
-use Rattle.std.specs.Prelude.{if◌then◌else◌}
+use Rattle.std.specs.Prelude.{if◌then◌else◌, Ok}
 use Rattle.laws.specs.Quoted.{codes, code, one_of}
 use Rattle.laws.proofs.Choice.{by_bool}
 use Rattle.chars.specs.Encode.{bytes_of}
 use Rattle.digits.specs.Hex.{hex_value}
 use Rattle.items.specs.declared.Quotes.{Quotes}
 use Rattle.items.specs.declared.Quotes.TheVariants.{Double, Lines}
-use Rattle.items.specs.declared.CharValue.TheVariants.{Scalar}
 use Rattle.items.specs.Classes.{delim_of, in_quotes, after_backslash, in_hex, in_trim, escapes, plain, simple, blank, space, line, solid}
 use Rattle.items.specs.Readers.{eat, scalar_of, read_quoted, read_escape, read_hex, read_trim, SoFar}
 use Rattle.items_r7rs.specs.Escape.{HexScalar}
@@ -95,7 +94,7 @@ module _ (report : Bool) (k : Quotes) where
       (λ e. rw (solid_or_line c h, e, read_trim))
 
   -- the digits of an escape, and what closes them
-  hex_close : (from n : ℕ) (i : SoFar) (cs : List ℕ) {v : ℕ} → scalar_of (hex_value (drop n i.bytes)) ≡ Scalar v
+  hex_close : (from n : ℕ) (i : SoFar) (cs : List ℕ) {v : ℕ} → scalar_of (hex_value (drop n i.bytes)) ≡ Ok v
       → read_hex report k (code ";") from n i (code ";" ∷ cs) ≡ read_quoted report k (eat i (code ";")) cs
   unfolding read_quoted in_hex
   hex_close from n i cs e = rw (e, read_hex)

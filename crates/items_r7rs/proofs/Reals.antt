@@ -8,14 +8,13 @@ use lib.Dec.{eqb, ltb}
 use native.Mathlib.Omega.{arith}
 use native.Mathlib.Nat.{le_refl, zero-add, suc_inj, suc-add}
 use borrow.Author.Tests.{le-ltb, eqb-true}
-use Rattle.std.specs.Prelude.{if◌then◌else◌}
+use Rattle.std.specs.Prelude.{if◌then◌else◌, None}
 use Rattle.laws.specs.Quoted.{codes, code, one_of}
 use Rattle.laws.specs.Texts.{span, before, starts, same}
 use Rattle.laws.proofs.Choice.{by_bool}
 use Rattle.chars.specs.Encode.{bytes_of}
 use Rattle.digits.specs.Digits.{sign}
 use Rattle.digits.specs.Digits as digit
-use Rattle.numbers.specs.declared.MaybeReal.TheVariants as maybe
 use Rattle.numbers.specs.Grammar.{just_of, ends_i, alone_of, to_sign, starts_e, rectangular, complex, judged, prefix, parse_number}
 use Rattle.numbers.specs.Reals.{exponent_marker, infnan, or_else, ureal, real}
 use Rattle.items_r7rs.specs.Escape.{digits}
@@ -87,7 +86,7 @@ same-foreign f (x ∷ w) (more {c = c} {t = t} p m) h =
 
 -- ---- the four special numbers are no others, and no imaginary part
 
-not_infnan : {t : List ℕ} → Many Numeral t → infnan t ≡ maybe.NoReal
+not_infnan : {t : List ℕ} → Many Numeral t → infnan t ≡ None
 unfolding infnan foreign
 not_infnan m =
     rw (

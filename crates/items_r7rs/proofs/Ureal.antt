@@ -9,35 +9,33 @@ use lib.Dec.{eqb, ltb}
 use native.Mathlib.Omega.{arith}
 use native.Mathlib.Nat.{le_refl, add-zero, zero-add}
 use borrow.Author.Tests.{lt-ltb, le-ltb, eq-eqb, ne_eqb}
-use Rattle.std.specs.Prelude.{if◌then◌else◌}
+use Rattle.std.specs.Prelude.{if◌then◌else◌, Some, None, Option}
 use Rattle.laws.specs.Quoted.{codes, code, one_of, within}
 use Rattle.laws.specs.Texts.{span, starts}
 use Rattle.laws.proofs.Choice.{by_bool}
 use Rattle.digits.specs.declared.Span.{Span}
 use Rattle.digits.specs.declared.Int.{Int}
 use Rattle.digits.specs.declared.Int.TheVariants.{Small, Big}
-use Rattle.digits.specs.declared.MaybeInt.TheVariants as whole
 use Rattle.digits.specs.Digits.{digit_of, uinteger, value, whole_of, integer}
 use Rattle.digits.specs.Digits as digit
 use Rattle.numbers.specs.declared.Exponent.{Exponent}
 use Rattle.numbers.specs.declared.Real.{Real}
 use Rattle.numbers.specs.declared.Real.TheVariants.{Integer, Rational}
-use Rattle.numbers.specs.declared.MaybeReal.{MaybeReal}
-use Rattle.numbers.specs.declared.MaybeReal.TheVariants as maybe
 use Rattle.numbers.specs.declared.Suffix as declared
 use Rattle.numbers.specs.declared.Suffix.TheVariants as suffixes
 use Rattle.numbers.specs.Grammar.{zero_int, zero_real}
 use Rattle.numbers.specs.Reals.{exponent_marker, exponent, suffix, point_of, dotted, undotted, decimal, integral_of, rational_of, denominator, exact, or_else, ureal}
 use Rattle.items_r7rs.specs.Escape.{digits}
 use Rattle.items_r7rs.specs.Number.{Digit, Sign, no_sign, Suffix, no_suffix, e_suffix, Decimal, scaled, dot_first, dot_inside, Ureal, is_integer, is_ratio, is_decimal}
-use Rattle.items_r7rs.specs.Repeated.{Many, done, Some}
+use Rattle.items_r7rs.specs.Repeated.{Many, done}
+use Rattle.items_r7rs.specs.Repeated as repeated
 use Rattle.items_r7rs.proofs.Classes.{at_one_of}
 use Rattle.items_r7rs.proofs.Reals.{many_map, some_many, some_length, span_on, span-all, shape, signed_text}
 
 -- a real number, whose denominator is not zero
-pub record IsReal (m : MaybeReal) : Type 0 where
+pub record IsReal (m : Option Real) : Type 0 where
   pub real_is : Real
-  pub gives : m ≡ maybe.AReal real_is
+  pub gives : m ≡ Some real_is
   pub proper : zero_real real_is ≡ false
 
 -- ---- digits
@@ -57,7 +55,7 @@ module _ {d : List ℕ} (m : Many Digit d) where
   unfolding span
   digits_then_other c r h = span_on (λ x. ltb (digit_of x) 10) (c ∷ r) all_ten ∙ rw h (add-zero (length d))
 
-uinteger_yes : {d : List ℕ} → Some Digit d → uinteger 10 d ≡ true
+uinteger_yes : {d : List ℕ} → repeated.Some Digit d → uinteger 10 d ≡ true
 unfolding uinteger
 uinteger_yes {d} m = rw (lt-ltb 0 (length d) (some_length m), digits-all (some_many m)) (eq-eqb (length d) (length d) refl)
 
@@ -65,7 +63,7 @@ uinteger_yes {d} m = rw (lt-ltb 0 (length d) (some_length m), digits-all (some_m
 abbrev pub integer_of : Bool → ℕ → List ℕ → Int
 integer_of b p d = if ltb (value 10 0 d) (digit.top b) then Small (digit.signed b (value 10 0 d)) else Big b (digit.span_at p (length d))
 
-whole_of_lem : (b : Bool) (p : ℕ) {d : List ℕ} → Some Digit d → whole_of 10 b p d ≡ whole.AnInt (integer_of b p d)
+whole_of_lem : (b : Bool) (p : ℕ) {d : List ℕ} → repeated.Some Digit d → whole_of 10 b p d ≡ Some (integer_of b p d)
 unfolding whole_of
 whole_of_lem b p m = rw (uinteger_yes m)
 
@@ -74,17 +72,17 @@ no_slash m = many_map (λ c h. at_one_of (λ k. not (eqb k (code "/"))) true dig
 
 -- ---- <uinteger 10>
 
-module _ (b : Bool) (p : ℕ) {d : List ℕ} (m : Some Digit d) where
-  no_decimal_lem : decimal b p d ≡ maybe.NoReal
+module _ (b : Bool) (p : ℕ) {d : List ℕ} (m : repeated.Some Digit d) where
+  no_decimal_lem : decimal b p d ≡ None
   unfolding decimal starts suffix undotted
   no_decimal_lem = rw (digits-all (some_many m), drop_of_length-le d (le_refl (length d)))
 
-  integer_exact : exact 10 b p d ≡ maybe.AReal (Integer (integer_of b p d))
+  integer_exact : exact 10 b p d ≡ Some (Integer (integer_of b p d))
   unfolding exact integral_of
   integer_exact =
       rw (span-all (λ c. not (eqb c (code "/"))) (no_slash (some_many m)), le-ltb (length d) (length d) (le_refl (length d))) (rw (whole_of_lem b p m))
 
-  pub integer_ureal : ureal 10 b p d ≡ maybe.AReal (Integer (integer_of b p d))
+  pub integer_ureal : ureal 10 b p d ≡ Some (Integer (integer_of b p d))
   unfolding ureal or_else
   integer_ureal = rw no_decimal_lem integer_exact
 
@@ -98,13 +96,13 @@ nonzero : (p : ℕ) (d : List ℕ) → eqb (value 10 0 d) 0 ≡ false → zero_i
 unfolding zero_int digit.signed
 nonzero p d h = by_bool (ltb (value 10 0 d) (digit.top false)) (λ e. rw e h) (λ e. rw e)
 
-denominator_is : (p : ℕ) {d : List ℕ} → Some Digit d → denominator 10 p d ≡ whole.AnInt (integer_of false p d)
+denominator_is : (p : ℕ) {d : List ℕ} → repeated.Some Digit d → denominator 10 p d ≡ Some (integer_of false p d)
 unfolding denominator integer
 denominator_is p {d} m =
     let g = signed_text no_sign (shape (is_integer m)) in
     rw (g.sign_is, g.sign-length) (rw (add-zero p) (whole_of_lem false p m))
 
-module _ (b : Bool) (p : ℕ) (n d : List ℕ) (m : Some Digit n) (k : Some Digit d) where
+module _ (b : Bool) (p : ℕ) (n d : List ℕ) (m : repeated.Some Digit n) (k : repeated.Some Digit d) where
   to_slash : span (λ c. not (eqb c (code "/"))) (n ++ (code "/" ∷ d)) ≡ length n
   unfolding span
   to_slash = span_on (λ c. not (eqb c (code "/"))) (code "/" ∷ d) (no_slash (some_many m)) ∙ add-zero (length n)
@@ -113,14 +111,14 @@ module _ (b : Bool) (p : ℕ) (n d : List ℕ) (m : Some Digit n) (k : Some Digi
   unfolding digit_of within
   slash_digits = digits_then_other (some_many m) (code "/") d refl
 
-  ratio_no_decimal : decimal b p (n ++ (code "/" ∷ d)) ≡ maybe.NoReal
+  ratio_no_decimal : decimal b p (n ++ (code "/" ∷ d)) ≡ None
   unfolding decimal starts suffix undotted exponent_marker
   ratio_no_decimal = rw (slash_digits, drop_at n (code "/" ∷ d) (length n) refl)
 
   after_slash : drop (length n + 1) (n ++ (code "/" ∷ d)) ≡ d
   after_slash = sym (drop-drop 1 (length n) (n ++ (code "/" ∷ d))) ∙ rw (drop_at n (code "/" ∷ d) (length n) refl)
 
-  ratio_exact : exact 10 b p (n ++ (code "/" ∷ d)) ≡ maybe.AReal (Rational (integer_of b p n) (integer_of false (p + length n + 1) d))
+  ratio_exact : exact 10 b p (n ++ (code "/" ∷ d)) ≡ Some (Rational (integer_of b p n) (integer_of false (p + length n + 1) d))
   unfolding exact rational_of
   ratio_exact =
       rw (to_slash, lt-ltb (length n) (length (n ++ (code "/" ∷ d))) (rw (length-append n (code "/" ∷ d)) (omega arith)))
@@ -148,13 +146,13 @@ data Good : declared.Suffix → Type 0 where
   none_there : Good suffixes.Empty
   scales : {x : declared.Suffix} → Scales x → Good x
 
-exponent_scales : (p : ℕ) {s d : List ℕ} {b : Bool} → Sign s b → Some Digit d → Scales (exponent p (s ++ d))
+exponent_scales : (p : ℕ) {s d : List ℕ} {b : Bool} → Sign s b → repeated.Some Digit d → Scales (exponent p (s ++ d))
 unfolding exponent
 exponent_scales p {s} g m =
     let x = signed_text g (shape (is_integer m)) in
     rw (x.sign-length, x.after_sign, uinteger_yes m) (marked _)
 
-marker_scales : (p c : ℕ) {s d : List ℕ} {b : Bool} → one_of (codes "eE") c ≡ true → Sign s b → Some Digit d → Scales (suffix p (c ∷ s ++ d))
+marker_scales : (p c : ℕ) {s d : List ℕ} {b : Bool} → one_of (codes "eE") c ≡ true → Sign s b → repeated.Some Digit d → Scales (suffix p (c ∷ s ++ d))
 unfolding suffix exponent_marker
 marker_scales p c h g m = rw (at_one_of exponent_marker true (codes "eE") c refl h) (exponent_scales (p + 1) g m)
 
@@ -188,7 +186,7 @@ undotted_real : (b : Bool) (p w : ℕ) {x : declared.Suffix} → 0 < w → Scale
 unfolding undotted
 undotted_real b p w h (marked e) = rw (ne_eqb w 0 (λ z. omega arith)) (scaled_real b _ _ (marked e))
 
-or_real : {a : MaybeReal} (b : MaybeReal) → IsReal a → IsReal (or_else a b)
+or_real : {a : Option Real} (b : Option Real) → IsReal a → IsReal (or_else a b)
 unfolding or_else
 or_real b r = rw r.gives record { real_is = r.real_is; gives = refl; proper = r.proper }
 

@@ -7,12 +7,12 @@ use mathlib.Core.Bool.{Bool, true, false, ◌&&◌}
 use mathlib.Core.List.{List, [], ◌∷◌, ◌++◌, map}
 use lib.ListN.{length}
 use lib.Dec.{eqb, leb, ltb}
-use Rattle.std.specs.Prelude.{if◌then◌else◌}
+use Rattle.std.specs.Prelude.{Err}
 use Rattle.laws.specs.Quoted.{codes, code, one_of}
 use Rattle.laws.proofs.Choice.{by_bool, impossible}
 use Rattle.chars.specs.Blank.{is_blank}
 use Rattle.chars.specs.Encode.{utf8, bytes_of}
-use Rattle.numbers.specs.declared.Parsed.TheVariants as parsed
+use Rattle.numbers.specs.declared.ParseError.TheVariants as parsed
 use Rattle.numbers.specs.Grammar.{parse_number}
 use Rattle.items.specs.declared.Outcome.{Outcome}
 use Rattle.items.specs.declared.Outcome.TheVariants.{Word, Run}
@@ -179,7 +179,7 @@ pub word_means_lem : (s e : ℕ) (raw : List ℕ) → word_kind raw ≡ kind.Ide
 unfolding word_means
 word_means_lem s e raw k h = rw (k, h)
 
-run_means_lem : (report : Bool) {o : Outcome} (s e : ℕ) (raw : List ℕ) → RunOrWord o → parse_number raw ≡ parsed.NoNumber → meaning_of report o s e raw ≡ word_means s e raw
+run_means_lem : (report : Bool) {o : Outcome} (s e : ℕ) (raw : List ℕ) → RunOrWord o → parse_number raw ≡ Err parsed.NoNumber → meaning_of report o s e raw ≡ word_means s e raw
 unfolding run_means
 run_means_lem report s e raw run h = rw h
 run_means_lem report s e raw word h = refl
@@ -198,7 +198,7 @@ unsplit (other {c = c} {t = t} h) = unsplit_plain c t h
 
 -- a word that starts as a number run and is no number
 module _ (report : Bool) (c : ℕ) {t cs : List ℕ} (k : ℕ) (text : ℕ → Text) (starts-run : one_of (codes "+-.") c ≡ true) (on : Many Goes t) (end : Ends delimiters cs)
-    (no_number : parse_number (bytes_of (c ∷ t)) ≡ parsed.NoNumber) (good : leb kind.first_error k ≡ false)
+    (no_number : parse_number (bytes_of (c ∷ t)) ≡ Err parsed.NoNumber) (good : leb kind.first_error k ≡ false)
     (meant : (at : ℕ) → word_means at (at + byte_count (c ∷ t)) (bytes_of (c ∷ t)) ≡ one k 0 (text at)) where
   begins_run : first_of c ≡ number
   unfolding first_of starts_run

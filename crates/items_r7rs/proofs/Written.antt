@@ -1,5 +1,6 @@
 -- <number> whole: its characters are those of a number run, so it is read to its delimiter; and its bytes are a number with the parts that
 -- the productions give, which crate numbers_difference proves.
+use Rattle.std.proofs.Common.{Some, Ok}
 use Prim.Native.Nat.{ℕ, ◌+◌, ◌≤◌, ◌<◌}
 use mathlib.Core.Path.{◌≡◌, refl, sym, ap, ◌∙◌}
 use mathlib.Core.Bool.{Bool, true, false, not, ◌||◌}
@@ -15,8 +16,6 @@ use Rattle.chars.specs.Encode.{bytes_of}
 use Rattle.digits.specs.Digits.{digit_of}
 use Rattle.numbers.specs.declared.Real.{Real}
 use Rattle.numbers.specs.declared.Parts.{Parts}
-use Rattle.numbers.specs.declared.Parsed.TheVariants as parsed
-use Rattle.numbers.specs.declared.MaybeParts.TheVariants.{SomeParts}
 use Rattle.numbers.specs.Grammar.{complex, judged, parse_number, zero_parts}
 use Rattle.laws.specs.Letters.{lower, is_sign}
 use Rattle.numbers_standard.proofs.Letters.{lower_is, UpperOf}
@@ -241,13 +240,13 @@ unfolding parse_number
 parse_seen R g s (inl e) = rw (e.2, e.1, e.0)
 parse_seen R g s (inr e) = rw (e.1, e.3, e.2, ne_eqb R 0 e.0)
 
-judged_is : (a : Parts) → zero_parts a ≡ false → judged (SomeParts a) ≡ parsed.Is a
+judged_is : (a : Parts) → zero_parts a ≡ false → judged (Some a) ≡ Ok a
 unfolding judged
 judged_is a h = rw h
 
 module _ {R : ℕ} {s : List ℕ} {a : Parts} where
   parses : {g : List ℕ} → Prefix R g → ComplexAt R (length g) s a → capital false s ≡ false → (R ≡ 16 → sign_after_odd_e false s ≡ false) → zero_parts a ≡ false → Many Stays s
-      → parse_number (g ++ s) ≡ parsed.Is a
+      → parse_number (g ++ s) ≡ Ok a
   parses {g} m d k o z y = parse_seen R g s (seen s m (no_mark y)) ∙ (ap judged (complex_low (prefix_radix m) d k o) ∙ judged_is a z)
 
   stays : {g : List ℕ} → Prefix R g → ComplexAt R (length g) s a → capital false s ≡ false → Many Stays s
@@ -271,7 +270,7 @@ x_mark : {c : ℕ} → Letter "x" c → one_of (codes "xXdDoObB") c ≡ true
 x_mark {c} (Letter.letter e) = mark_letter c (code "x") e refl (upper_mark (code "x") (code "X") refl refl)
 
 -- the parts that the number call gives are the production's
-pub written_parts : {t : List ℕ} {a : Parts} → Written t a → parse_number (bytes_of t) ≡ parsed.Is a
+pub written_parts : {t : List ℕ} {a : Parts} → Written t a → parse_number (bytes_of t) ≡ Ok a
 written_parts (written Prefix.empty d k o z) = let y = stays Prefix.empty d k in ap parse_number (stays_bytes y) ∙ parses Prefix.empty d k o z y
 written_parts (written (Prefix.binary {c = c} m) d k o z) = let y = stays (Prefix.binary m) d k in ap parse_number (marked_bytes c (b_mark m) y) ∙ parses (Prefix.binary m) d k o z y
 written_parts (written (Prefix.octal {c = c} m) d k o z) = let y = stays (Prefix.octal m) d k in ap parse_number (marked_bytes c (o_mark m) y) ∙ parses (Prefix.octal m) d k o z y
@@ -294,7 +293,7 @@ written_run (written (Prefix.octal m) d k o z) = prefixed (o_mark m) (stays (Pre
 written_run (written (Prefix.decimal m) d k o z) = prefixed (d_mark m) (stays (Prefix.decimal m) d k)
 written_run (written (Prefix.hex m) d k o z) = prefixed (x_mark m) (stays (Prefix.hex m) d k)
 
-run_read : (report : Bool) {t : List ℕ} (cs : List ℕ) → RunText t → (a : Parts) → parse_number (bytes_of t) ≡ parsed.Is a → Ends (number_delimiters report) cs
+run_read : (report : Bool) {t : List ℕ} (cs : List ℕ) → RunText t → (a : Parts) → parse_number (bytes_of t) ≡ Ok a → Ends (number_delimiters report) cs
     → ReadAs report t cs kind.Number 0 nothing
 run_read report cs (bare {c = c} h m) a n e = number_run report c h m a n e
 run_read report cs (prefixed {c = c} h m) a n e = prefixed_run report c h m a n e

@@ -1,5 +1,6 @@
 -- Every token of the standard (specs/Standard) is one that crate items_r7rs reads, or meets a row: each condition of a production there holds or fails,
 -- and where it fails its row is met.
+use Rattle.std.proofs.Common.{Ok, Err}
 use Prim.Native.Nat.{ℕ}
 use mathlib.Core.Path.{◌≡◌, refl, sym, ap, subst, ◌∙◌}
 use mathlib.Core.Bool.{Bool, true, false, ◌||◌}
@@ -14,10 +15,9 @@ use Rattle.laws.specs.Texts.{same}
 use Rattle.laws.proofs.Choice.{by_bool, impossible}
 use Rattle.laws.proofs.Compared.{same_is}
 use Rattle.chars.specs.Encode.{bytes_of}
-use Rattle.numbers.specs.declared.Parsed.{Parsed}
-use Rattle.numbers.specs.declared.Parsed.TheVariants as parsed
+use Rattle.numbers.specs.declared.ParseError.TheVariants as parsed
 use Rattle.numbers.specs.declared.Parts.{Parts}
-use Rattle.numbers.specs.Grammar.{parse_number, zero_parts}
+use Rattle.numbers.specs.Grammar.{parse_number, zero_parts, Parsed}
 use Rattle.numbers_difference.specs.Conditions.{NumberText, SignBelowSlash, capital, sign_after_odd_e}
 use Rattle.numbers_difference.specs.R7rs.{Number}
 use Rattle.numbers_difference.proofs.Differs.{number_at}
@@ -107,9 +107,9 @@ module _ (report : Bool) (cs : List ℕ) where
       slashed (inr x) = inr (standard.below_slash p x)
 
       go : (x : Parsed) → parse_number (bytes_of t) ≡ x → Named t
-      go parsed.NoNumber e = f (unslashed (bytes_of t) e)
-      go (parsed.Is a) e = slashed (numeric_back (bytes_of t) (λ q. let z : parsed.Is a ≡ parsed.NoNumber = sym e ∙ q in impossible cc))
-      go parsed.ZeroDenominator e = slashed (numeric_back (bytes_of t) (λ q. let z : parsed.ZeroDenominator ≡ parsed.NoNumber = sym e ∙ q in impossible cc))
+      go (Err parsed.NoNumber) e = f (unslashed (bytes_of t) e)
+      go (Ok a) e = slashed (numeric_back (bytes_of t) (λ q. let z : Ok a ≡ Err parsed.NoNumber = sym e ∙ q in impossible cc))
+      go (Err parsed.ZeroDenominator) e = slashed (numeric_back (bytes_of t) (λ q. let z : (Err parsed.ZeroDenominator) ≡ Err parsed.NoNumber = sym e ∙ q in impossible cc))
 
   named_lines : (t v : List ℕ) → SymbolElements t v → Either (code "|" ∷ t ++ codes "|") kind.Identifier 0 (bytes (bytes_of v))
   named_lines t (x ∷ v) s = inl (token.lined (lined s some))

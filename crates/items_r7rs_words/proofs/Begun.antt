@@ -1,5 +1,6 @@
 -- How a keyword, a comment and an identifier in vertical lines begin: `#:`; `;` or `#|`; `|`. Each phase of the machine knows it of the item so far, and a step keeps it.
-use Prim.Native.Nat.{ℕ, ◌+◌}
+use Rattle.std.proofs.Common.{Err, Ok, Result}
+use Prim.Native.Nat.{ℕ}
 use mathlib.Core.Path.{◌≡◌, refl, ap, ◌∙◌}
 use mathlib.Core.Logic.{◌⊎◌, inl, inr}
 use mathlib.Core.Bool.{Bool, true}
@@ -11,7 +12,6 @@ use Rattle.laws.specs.Quoted.{code, codes, one_of}
 use Rattle.laws.specs.Texts.{begins, same}
 use Rattle.laws.proofs.Choice.{by_bool, no_yes, if_all, if_is, impossible}
 use Rattle.chars.specs.Encode.{utf8, bytes_of, spelled}
-use Rattle.digits.specs.declared.Hex.{Hex}
 use Rattle.digits.specs.Hex.{hex_value}
 use Rattle.items.specs.declared.Quotes.{Quotes}
 use Rattle.items.specs.declared.Quotes.TheVariants.{Double, Lines}
@@ -23,8 +23,8 @@ use Rattle.items.specs.declared.Next.{Next}
 use Rattle.items.specs.declared.Next.TheVariants.{Eat, Stop}
 use Rattle.items.specs.declared.HashKind.{HashKind}
 use Rattle.items.specs.declared.HashKind.TheVariants.{Decided, Bracket, Undecided}
-use Rattle.items.specs.declared.CharValue.{CharValue}
-use Rattle.items.specs.declared.CharValue.TheVariants.{Scalar, Wrong, WrongAt}
+use Rattle.items.specs.declared.CharError.{CharError}
+use Rattle.items.specs.declared.CharError.TheVariants.{Wrong, WrongAt}
 use Rattle.items.specs.Kinds as kind
 use Rattle.items.specs.Classes.{starts_run, first_of, in_quotes, after_backslash, in_hex, in_trim, in_nest, in_word, in_run}
 use Rattle.items.specs.Classes.{after_hash, in_hash, in_delim, First, InQuotes, ends, escapes, plain, AfterBackslash, simple, hex_x, hex_u}
@@ -202,10 +202,10 @@ module _ (report : Bool) (i : SoFar) (c : ℕ) where
   goes_brace stops q from = tt
   goes_brace digit q from = tt
 
-  goes_close : (v : CharValue) (q : Quotes) (from m : ℕ) → G (close_hex report v q from m (eat i c).at i)
-  goes_close (Scalar x) q from m = tt
-  goes_close (Wrong n d) q from m = tt
-  goes_close (WrongAt n d p) q from m = at_failing (eat i c).bytes n d from _ _ _
+  goes_close : (v : Result ℕ CharError) (q : Quotes) (from m : ℕ) → G (close_hex report v q from m (eat i c).at i)
+  goes_close (Ok x) q from m = tt
+  goes_close (Err (Wrong n d)) q from m = tt
+  goes_close (Err (WrongAt n d p)) q from m = at_failing (eat i c).bytes n d from _ _ _
 
   goes_hex : (k : InHex) (q : Quotes) (closer from m : ℕ) → G (on_hex report k q closer from m i c)
   goes_hex closes q closer from m = goes_close (scalar_of (hex_value (drop m i.bytes))) q from m

@@ -1,5 +1,6 @@
 -- What stands behind a number, a name, a boolean and a character (specs/Follows): the character at which the run or the word was ended (`Follows`). Of
 -- what starts with `#` that may be a mark of its own, which neither a boolean nor a character has.
+use Rattle.std.proofs.Common.{Ok, Err, Result}
 use Prim.Native.Nat.{ℕ, ◌+◌, ◌-◌, ◌<◌}
 use mathlib.Core.Path.{◌≡◌, refl, sym, ap, subst, ◌∙◌}
 use mathlib.Core.Bool.{Bool, true, false, ◌&&◌}
@@ -14,15 +15,14 @@ use Rattle.laws.specs.Quoted.{code, codes, one_of, within}
 use Rattle.laws.specs.Texts.{begins}
 use Rattle.laws.proofs.Choice.{by_bool, no_yes, if_all, if_is}
 use Rattle.chars.specs.Encode.{utf8, bytes_of, spelled}
-use Rattle.numbers.specs.Grammar.{parse_number}
-use Rattle.numbers.specs.declared.Parsed.{Parsed}
-use Rattle.numbers.specs.declared.Parsed.TheVariants as parsed
+use Rattle.numbers.specs.Grammar.{parse_number, Parsed}
+use Rattle.numbers.specs.declared.ParseError.TheVariants as parsed
 use Rattle.items.specs.Classes.{breaks_word, ends_run, ends_hash}
 use Rattle.items.specs.Kinds as kind
 use Rattle.items.specs.declared.Outcome.{Outcome}
 use Rattle.items.specs.declared.Outcome.TheVariants.{Token, Str, HereStr, Word, Run, Lined, Keyword, Character, Error, ErrorAt}
-use Rattle.items.specs.declared.CharValue.{CharValue}
-use Rattle.items.specs.declared.CharValue.TheVariants.{Scalar, Wrong, WrongAt}
+use Rattle.items.specs.declared.CharError.{CharError}
+use Rattle.items.specs.declared.CharError.TheVariants.{Wrong, WrongAt}
 use Rattle.items.specs.Items.{Item, items}
 use Rattle.items.specs.Meaning.{Text, Meaning, means, word_kind, word_means, run_means, character_of, char_inside, character_means, meaning_of}
 use Rattle.items.specs.Readers.{Read, first_is}
@@ -211,7 +211,7 @@ last_mark t h =
     let r = last_of b (ltb-true b 0x80 (at_one_of (λ k. ltb k 0x80) true marks b refl h)) (at_one_of (λ k. eqb 0 k) false marks b refl h) t (eq-eqb b b refl) in
     ap (one_of marks) (ap (last_or 0) r.1 ∙ last_of_two 0 r.0 b []) ∙ h
 
-character_unmarked : (report : Bool) (t : List ℕ) (c : ℕ) → begins (spelled "#\\") (bytes_of t) ≡ true → character_of report (char_inside (bytes_of t)) ≡ Scalar c
+character_unmarked : (report : Bool) (t : List ℕ) (c : ℕ) → begins (spelled "#\\") (bytes_of t) ≡ true → character_of report (char_inside (bytes_of t)) ≡ Ok c
     → Marked (bytes_of t) → ⊥
 unfolding bytes_of utf8
 character_unmarked report t c f h m =
@@ -295,17 +295,17 @@ module _ (report : Bool) (t rest : List ℕ) where
 
     run_there : (p : Parsed) → Follows report raw Run rest → There (run_means p s e raw)
     unfolding run_means
-    run_there (parsed.Is p) h =
+    run_there (Ok p) h =
         (record { number = λ _. ended_by (EndsNumber report) Run (run_end report) h; name = λ g. no_yes g; hashed = λ g. no_yes g }, tt)
-    run_there parsed.NoNumber h = word_there (λ _ _. ended_by (EndsEither report) Run (λ c f. inr (run_end report c f)) h)
-    run_there parsed.ZeroDenominator h = (apart _ 0 _ (error_apart kind.ZeroDenominator), tt)
+    run_there (Err parsed.NoNumber) h = word_there (λ _ _. ended_by (EndsEither report) Run (λ c f. inr (run_end report c f)) h)
+    run_there (Err parsed.ZeroDenominator) h = (apart _ 0 _ (error_apart kind.ZeroDenominator), tt)
 
-    character_there : begins (spelled "#\\") raw ≡ true → Follows report raw Character rest → (v : CharValue) → character_of report (char_inside raw) ≡ v
+    character_there : begins (spelled "#\\") raw ≡ true → Follows report raw Character rest → (v : Result ℕ CharError) → character_of report (char_inside raw) ≡ v
         → There (character_means v)
-    character_there b f (Scalar c) h =
+    character_there b f (Ok c) h =
         (record { number = λ g. no_yes g; name = λ g. no_yes g; hashed = λ _. hash_ended Character (λ c k. k) (character_unmarked report t c b h) f }, tt)
-    character_there b f (Wrong n d) h = (apart _ d _ (error_apart n), tt)
-    character_there b f (WrongAt n d p) h = (apart _ d _ (error_apart n), tt)
+    character_there b f (Err (Wrong n d)) h = (apart _ d _ (error_apart n), tt)
+    character_there b f (Err (WrongAt n d p)) h = (apart _ d _ (error_apart n), tt)
 
     token_there : (k d : ℕ) → Spelled raw k d → Follows report raw (Token k d) rest → Before report raw rest (means k d Text.none)
     token_there k d h f =

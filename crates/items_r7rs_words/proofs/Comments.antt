@@ -1,6 +1,6 @@
 -- Comments (specs/Comments). A line comment goes to its newline; a nested one is built from its end: a mark that closes, or one that opens and what
 -- two comments have behind it, and any character put before them that makes no mark with the next.
-use Prim.Native.Nat.{ℕ, zero, suc, ◌+◌, ◌-◌}
+use Prim.Native.Nat.{ℕ, zero, suc, ◌-◌}
 use mathlib.Core.Path.{◌≡◌, refl, sym, ap, subst, ◌∙◌}
 use mathlib.Core.Bool.{Bool, true, false}
 use mathlib.Core.List.{List, [], ◌∷◌, ◌++◌, append_assoc, append-nil}

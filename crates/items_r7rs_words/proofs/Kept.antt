@@ -1,5 +1,7 @@
 -- An identifier that is a <number> (specs/Follows): its characters are those of a run, so the run was left at the character behind it, which ends a word
 -- and no run.
+use Rattle.std.proofs.Common.{Ok}
+use Rattle.numbers.specs.Grammar.{Parsed}
 use Prim.Native.Nat.{ℕ}
 use mathlib.Core.Path.{◌≡◌, refl, sym, ap, subst, ◌∙◌}
 use mathlib.Core.Bool.{Bool, true, false}
@@ -12,8 +14,6 @@ use Rattle.laws.specs.Quoted.{codes, code, one_of}
 use Rattle.laws.proofs.Choice.{by_bool, no_yes, yes_no, if_all, if_is}
 use Rattle.chars.specs.Blank.{is_blank}
 use Rattle.chars.specs.Encode.{bytes_of}
-use Rattle.numbers.specs.declared.Parsed.{Parsed}
-use Rattle.numbers.specs.declared.Parsed.TheVariants as parsed
 use Rattle.numbers.specs.declared.Parts.{Parts}
 use Rattle.items.specs.declared.Next.{Next}
 use Rattle.items.specs.declared.Next.TheVariants.{Eat, Stop}
@@ -165,7 +165,7 @@ module _ (report : Bool) where
         from_run (eat (eat (so_far [] s) (code "#")) c) m (rw (b, scan_of) at (item_same report s (code "#") (c ∷ t ++ rest) ∙ h))
 
 -- a run that is a number means no identifier
-number_kind : (a : Parts) (s e : ℕ) (raw : List ℕ) {m : Meaning} → In m (run_means (parsed.Is a) s e raw) → eqb m.kind kind.Identifier ≡ false
+number_kind : (a : Parts) (s e : ℕ) (raw : List ℕ) {m : Meaning} → In m (run_means (Ok a) s e raw) → eqb m.kind kind.Identifier ≡ false
 unfolding run_means
 number_kind a s e raw h = every_in (λ (m : Meaning). eqb m.kind kind.Identifier ≡ false) (refl, tt) h
 
@@ -183,7 +183,7 @@ number_kept report cs = of_reads report cs (NumberKept report (bytes_of cs)) (λ
         go : (z.what ≡ Run) ⊎ Kept report z.rest → Kept report z.rest
         go (inr h) = h
         go (inl e) =
-            let m : In (means i.kind i.detail i.text) (run_means (parsed.Is a) i.start i.end raw)
+            let m : In (means i.kind i.detail i.text) (run_means (Ok a) i.start i.end raw)
             = subst (λ (p : Parsed). In (means i.kind i.detail i.text) (run_means p i.start i.end raw)) (written_parts w)
             (subst (λ (o : Outcome). In (means i.kind i.detail i.text) (meaning_of report o i.start i.end raw)) e z.meant) in
             no_yes (sym (number_kind a i.start i.end raw m) ∙ k)

@@ -1,5 +1,6 @@
 -- The other way, kind by kind (specs/Words): a word's kind is looked up in a table, a token's is its spelling's, keywords and comments begin as
 -- `Begun` says, and an identifier's text is its extent, a part of that, or what stands between vertical lines.
+use Rattle.std.proofs.Common.{Ok, Err, Result}
 use Prim.Native.Nat.{ℕ, ◌+◌}
 use mathlib.Core.Path.{◌≡◌, refl, sym, ap, subst, ◌∙◌}
 use mathlib.Core.Bool.{Bool, true, false, ◌&&◌}
@@ -14,14 +15,13 @@ use Rattle.laws.specs.Texts.{begins, same}
 use Rattle.laws.proofs.Choice.{by_bool, no_yes, if_is}
 use Rattle.laws.proofs.Compared.{same_is}
 use Rattle.chars.specs.Encode.{utf8, bytes_of, spelled}
-use Rattle.numbers.specs.Grammar.{parse_number}
-use Rattle.numbers.specs.declared.Parsed.{Parsed}
-use Rattle.numbers.specs.declared.Parsed.TheVariants as parsed
+use Rattle.numbers.specs.Grammar.{parse_number, Parsed}
+use Rattle.numbers.specs.declared.ParseError.TheVariants as parsed
 use Rattle.items.specs.Kinds as kind
 use Rattle.items.specs.declared.Outcome.{Outcome}
 use Rattle.items.specs.declared.Outcome.TheVariants.{Token, Str, HereStr, Word, Run, Lined, Keyword, Character, Error, ErrorAt}
-use Rattle.items.specs.declared.CharValue.{CharValue}
-use Rattle.items.specs.declared.CharValue.TheVariants.{Scalar, Wrong, WrongAt}
+use Rattle.items.specs.declared.CharError.{CharError}
+use Rattle.items.specs.declared.CharError.TheVariants.{Wrong, WrongAt}
 use Rattle.items.specs.Items.{Item, items}
 use Rattle.items.specs.Meaning.{Text, source, Row, Meaning, means, lookup, words, word_kind, word_means, run_means, lined_text, character_of, char_inside}
 use Rattle.items.specs.Meaning.{character_means, meaning_of}
@@ -210,14 +210,14 @@ module _ (report : Bool) (s e : ℕ) (raw : List ℕ) where
 
   run_there : (p : Parsed) → There (run_means p s e raw)
   unfolding run_means
-  run_there (parsed.Is p) = (apart kind.Number 0 _ (record { word = refl; mark = refl; keyword = refl; comment = refl; identifier = refl }), tt)
-  run_there parsed.NoNumber = word_there
-  run_there parsed.ZeroDenominator = (apart _ 0 _ (error_apart kind.ZeroDenominator), tt)
+  run_there (Ok p) = (apart kind.Number 0 _ (record { word = refl; mark = refl; keyword = refl; comment = refl; identifier = refl }), tt)
+  run_there (Err parsed.NoNumber) = word_there
+  run_there (Err parsed.ZeroDenominator) = (apart _ 0 _ (error_apart kind.ZeroDenominator), tt)
 
-  character_there : (v : CharValue) → There (character_means v)
-  character_there (Scalar c) = (apart kind.CharacterLiteral c _ (record { word = refl; mark = refl; keyword = refl; comment = refl; identifier = refl }), tt)
-  character_there (Wrong n d) = (apart _ d _ (error_apart n), tt)
-  character_there (WrongAt n d p) = (apart _ d _ (error_apart n), tt)
+  character_there : (v : Result ℕ CharError) → There (character_means v)
+  character_there (Ok c) = (apart kind.CharacterLiteral c _ (record { word = refl; mark = refl; keyword = refl; comment = refl; identifier = refl }), tt)
+  character_there (Err (Wrong n d)) = (apart _ d _ (error_apart n), tt)
+  character_there (Err (WrongAt n d p)) = (apart _ d _ (error_apart n), tt)
 
   bar_no_dot : first_is (code "|") raw ≡ true → raw ≡ spelled "." → ⊥
   unfolding bytes_of utf8

@@ -7,16 +7,15 @@ use mathlib.Core.List.{List, [], ◌∷◌, map}
 use lib.ListN.{drop}
 use lib.Dec.{eqb}
 use borrow.Author.Tests.{eqb-true}
-use Rattle.std.specs.Prelude.{if◌then◌else◌}
+use Rattle.std.specs.Prelude.{if◌then◌else◌, Ok, Err, Result}
 use Rattle.laws.specs.Quoted.{code, codes, one_of}
 use Rattle.laws.proofs.Choice.{by_bool}
 use Rattle.chars.specs.Blank.{is_blank}
 use Rattle.digits.specs.Hex.{hex_value}
-use Rattle.numbers.specs.Grammar.{parse_number, numeric}
-use Rattle.numbers.specs.declared.Parsed.{Parsed}
-use Rattle.numbers.specs.declared.Parsed.TheVariants as parsed
-use Rattle.items.specs.declared.CharValue.{CharValue}
-use Rattle.items.specs.declared.CharValue.TheVariants.{Scalar, Wrong, WrongAt}
+use Rattle.numbers.specs.Grammar.{parse_number, numeric, Parsed}
+use Rattle.numbers.specs.declared.ParseError.TheVariants as parsed
+use Rattle.items.specs.declared.CharError.{CharError}
+use Rattle.items.specs.declared.CharError.TheVariants.{Wrong, WrongAt}
 use Rattle.items.specs.declared.Next.{Next}
 use Rattle.items.specs.declared.Next.TheVariants.{Eat, Stop}
 use Rattle.items.specs.declared.Outcome.{Outcome}
@@ -45,7 +44,7 @@ at_one_of f a (k ∷ ks) c e h =
 data Step (i : SoFar) (c : ℕ) : Next → Next → Type 0 where
   both : (n : Next) → Step i c n n
   failing : (n d a b from to : ℕ) → Step i c (Eat (ph.Done (ErrorAt n d a b))) (Eat (ph.Done (ErrorAt n d from to)))
-  worded : parse_number i.bytes ≡ parsed.NoNumber → Step i c (Stop Run) (Stop Word)
+  worded : parse_number i.bytes ≡ Err parsed.NoNumber → Step i c (Stop Run) (Stop Word)
   ended : (n : Next) → numeric (parse_number i.bytes) ≡ true → one_of (codes ";\"|") c ≡ true → Step i c (Stop Run) n
 
 -- the class of a character in a run, by the tests that it is made of
@@ -63,12 +62,12 @@ module _ (i : SoFar) (c : ℕ) where
 
   run_left : (l : Bool) (n : Parsed) → parse_number i.bytes ≡ n → one_of (codes ";\"|") c ≡ true → enter_word c ≡ Stop Word
       → Step i c (Stop Run) (on_run (if (if l then false else false) then stops_run else leaves) c)
-  run_left true (parsed.Is p) e h w = ended _ (ap numeric e) h
-  run_left true parsed.NoNumber e h w = subst (λ (m : Next). Step i c (Stop Run) m) (sym w) (worded e)
-  run_left true parsed.ZeroDenominator e h w = ended _ (ap numeric e) h
-  run_left false (parsed.Is p) e h w = ended _ (ap numeric e) h
-  run_left false parsed.NoNumber e h w = subst (λ (m : Next). Step i c (Stop Run) m) (sym w) (worded e)
-  run_left false parsed.ZeroDenominator e h w = ended _ (ap numeric e) h
+  run_left true (Ok p) e h w = ended _ (ap numeric e) h
+  run_left true (Err parsed.NoNumber) e h w = subst (λ (m : Next). Step i c (Stop Run) m) (sym w) (worded e)
+  run_left true (Err parsed.ZeroDenominator) e h w = ended _ (ap numeric e) h
+  run_left false (Ok p) e h w = ended _ (ap numeric e) h
+  run_left false (Err parsed.NoNumber) e h w = subst (λ (m : Next). Step i c (Stop Run) m) (sym w) (worded e)
+  run_left false (Err parsed.ZeroDenominator) e h w = ended _ (ap numeric e) h
 
   run_step : (s b q k l : Bool) (n : Parsed) → parse_number i.bytes ≡ n → (q ≡ true → (one_of (codes ";\"|") c ≡ true) × (enter_word c ≡ Stop Word))
       → (l ≡ true → one_of (codes ";\"|") c ≡ true) → Step i c (on_run (classed true s b q k l n) c) (on_run (classed false s b q k l n) c)
@@ -76,9 +75,9 @@ module _ (i : SoFar) (c : ℕ) where
   run_step false true q k l n e f g = both _
   run_step false false true k l n e f g = run_left l n e (f refl).0 (f refl).1
   run_step false false false true l n e f g = both _
-  run_step false false false false true (parsed.Is p) e f g = ended _ (ap numeric e) (g refl)
-  run_step false false false false true parsed.NoNumber e f g = both _
-  run_step false false false false true parsed.ZeroDenominator e f g = ended _ (ap numeric e) (g refl)
+  run_step false false false false true (Ok p) e f g = ended _ (ap numeric e) (g refl)
+  run_step false false false false true (Err parsed.NoNumber) e f g = both _
+  run_step false false false false true (Err parsed.ZeroDenominator) e f g = ended _ (ap numeric e) (g refl)
   run_step false false false false false n e f g = both _
 
   quote_breaks : one_of (codes ";\"") c ≡ true → (one_of (codes ";\"|") c ≡ true) × (enter_word c ≡ Stop Word)
@@ -98,10 +97,10 @@ module _ (i : SoFar) (c : ℕ) where
   brace_step stops q from = both _
   brace_step digit q from = both _
 
-  close_step : (v : CharValue) (q : Quotes) (from n to : ℕ) → Step i c (close_hex true v q from n to i) (close_hex false v q from n to i)
-  close_step (Scalar v) q from n to = both _
-  close_step (Wrong e d) q from n to = both _
-  close_step (WrongAt e d p) q from n to = failing _ _ _ _ _ _
+  close_step : (v : Result ℕ CharError) (q : Quotes) (from n to : ℕ) → Step i c (close_hex true v q from n to i) (close_hex false v q from n to i)
+  close_step (Ok v) q from n to = both _
+  close_step (Err (Wrong e d)) q from n to = both _
+  close_step (Err (WrongAt e d p)) q from n to = failing _ _ _ _ _ _
 
   hex_step : (k : InHex) (q : Quotes) (closer from n : ℕ) → Step i c (on_hex true k q closer from n i c) (on_hex false k q closer from n i c)
   hex_step closes q closer from n = close_step (scalar_of (hex_value (drop n i.bytes))) q from n (eat i c).at

@@ -1,4 +1,5 @@
 -- The items of a text in both modes are the same up to the first number that report mode alone ends (specs/Together), by `report_plain`.
+use Rattle.std.proofs.Common.{Ok, Err}
 use Prim.Native.Nat.{ℕ, zero, suc, ◌+◌}
 use mathlib.Core.Path.{◌≡◌, refl, sym, ap, subst, ◌∙◌}
 use mathlib.Core.Logic.{inl, inr}
@@ -14,9 +15,8 @@ use Rattle.chars.specs.Blank.{is_blank}
 use Rattle.chars.specs.Encode.{width}
 use Rattle.chars.specs.Utf8.{front, Front}
 use Rattle.chars.specs.Utf8 as Utf8
-use Rattle.numbers.specs.Grammar.{parse_number, numeric}
-use Rattle.numbers.specs.declared.Parsed.{Parsed}
-use Rattle.numbers.specs.declared.Parsed.TheVariants as parsed
+use Rattle.numbers.specs.Grammar.{parse_number, numeric, Parsed}
+use Rattle.numbers.specs.declared.ParseError.TheVariants as parsed
 use Rattle.items.specs.declared.Next.{Next}
 use Rattle.items.specs.declared.Next.TheVariants.{Eat, Stop}
 use Rattle.items.specs.declared.Outcome.{Outcome}
@@ -124,9 +124,9 @@ module _ (text : List ℕ) where
   run_next : (k : Parsed) (l : Place) (s e : ℕ) (raw : List ℕ) (is : List Item) {js : List Item} → numeric k ≡ true → (b : List ℕ) (c : ℕ) (a : List ℕ)
       → text ≡ b ++ (c ∷ a) → e ≡ byte_count b → one_of (codes ";\"|") c ≡ true → Together text (items_of true l s e (run_means k s e raw) ++ is) js
   unfolding run_means
-  run_next (parsed.Is p) l s e raw is h b c a t u o = number (inl refl) b c a t u o
-  run_next parsed.NoNumber l s e raw is h b c a t u o = impossible cc
-  run_next parsed.ZeroDenominator l s e raw is h b c a t u o = number (inr refl) b c a t u o
+  run_next (Ok p) l s e raw is h b c a t u o = number (inl refl) b c a t u o
+  run_next (Err parsed.NoNumber) l s e raw is h b c a t u o = impossible cc
+  run_next (Err parsed.ZeroDenominator) l s e raw is h b c a t u o = number (inr refl) b c a t u o
 
   number_next : (l : Place) (s : ℕ) (o : Outcome) (i : SoFar) (is : List Item) {js : List Item} → o ≡ Run → numeric (parse_number i.bytes) ≡ true → (b : List ℕ) (c : ℕ) (a : List ℕ)
       → text ≡ b ++ (c ∷ a) → i.at ≡ byte_count b → one_of (codes ";\"|") c ≡ true → Together text (extent_items true l s o i ++ is) js

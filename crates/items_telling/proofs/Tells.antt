@@ -1,8 +1,8 @@
 -- What the bytes of an extent tell.
+use Rattle.std.proofs.Common.{Ok}
 use Rattle.laws.specs.Quoted.{code}
 use Rattle.numbers.specs.Grammar.{parse_number}
 use Rattle.numbers.specs.declared.Parts.{Parts}
-use Rattle.numbers.specs.declared.Parsed.TheVariants as parsed
 use Rattle.items.specs.Kinds as kind
 use Rattle.items.specs.Readers.{first_is}
 use Rattle.items.specs.Meaning.{escaped, string_text, lined_text, word_kind, word_means, run_means}
@@ -28,7 +28,7 @@ module _ (at e : ℕ) (raw : List ℕ) (long : e ≡ at + length raw) where
   quoted_tells Double f = (refl, long, refl, omega arith, record { means = λ r. rw (long, f); undecoded = tt }, λ depth. refl)
   quoted_tells Lines f = (refl, long, refl, omega arith, record { means = λ r. rw (long, f); undecoded = tt }, λ depth. refl)
 
-  pub run_tells : (p : Parts) → parse_number raw ≡ parsed.Is p → Tells Run at raw (Item (means kind.Number 0 Nowhere) at e)
+  pub run_tells : (p : Parts) → parse_number raw ≡ Ok p → Tells Run at raw (Item (means kind.Number 0 Nowhere) at e)
   unfolding run_means
   run_tells p f = (refl, long, refl, omega arith, record { means = λ r. rw f; undecoded = tt }, λ depth. refl)
 

@@ -50,13 +50,10 @@ fn past_escape(s: &[u8], at: usize) -> usize
     requires { (at < length s.now) × (get_or s.now at 0 ≡ code "\\") }
     ensures { Passes s.now (Quoted Double) at result }
 {
-    if s.len() - at < ESCAPE_LENGTH {
-        return at;
+    match s.get(at + 1) {
+        Some(&c) if is_short(c) => at + ESCAPE_LENGTH,
+        _ => at,
     }
-    if is_short(s[at + 1]) {
-        return at + ESCAPE_LENGTH;
-    }
-    at
 }
 
 // Past what stands at a place in a string: an escape of two bytes, or characters up to one or to the quote.

@@ -1,4 +1,5 @@
 -- The code's decision is the definition's `bare`.
+use Rattle.std.proofs.Common.{None, Option, Some, Ok, Err, Result}
 use Prim.Native.Nat.{ℕ, zero, suc, ◌+◌, ◌-◌, ◌≤◌}
 use mathlib.Core.Path.{◌≡◌, refl, sym, ap, subst, ◌∙◌}
 use mathlib.Core.Bool.{Bool, true, false, ◌&&◌}
@@ -14,14 +15,13 @@ use Rattle.chars.specs.Blank.{is_blank}
 use Rattle.chars.specs.Encode.{width, bytes_of}
 use Rattle.chars.proofs.Good.{Scalars}
 use Rattle.chars.proofs.Width.{wide}
-use Rattle.numbers.specs.declared.Parsed.{Parsed}
-use Rattle.numbers.specs.declared.Parsed.TheVariants as parsed
-use Rattle.numbers.specs.Grammar.{parse_number}
+use Rattle.numbers.specs.declared.ParseError.TheVariants as parsed
+use Rattle.numbers.specs.Grammar.{parse_number, Parsed}
 use Rattle.items.specs.declared.Quotes.TheVariants.{Lines}
 use Rattle.items.specs.declared.Outcome.{Outcome}
 use Rattle.items.specs.declared.Outcome.TheVariants.{Token, Str, HereStr, Word, Run, Lined, Keyword, Character, Error, ErrorAt}
-use Rattle.items.specs.declared.CharValue.{CharValue}
-use Rattle.items.specs.declared.CharValue.TheVariants.{Scalar, Wrong, WrongAt}
+use Rattle.items.specs.declared.CharError.{CharError}
+use Rattle.items.specs.declared.CharError.TheVariants.{Wrong, WrongAt}
 use Rattle.items.specs.declared.Phase.{Phase}
 use Rattle.items.specs.declared.Next.TheVariants.{Eat, Stop}
 use Rattle.items.specs.Classes.{first_of}
@@ -36,8 +36,6 @@ use Rattle.items.proofs.Order.{items_length}
 use Rattle.items.proofs.Same.{item_same}
 use Rattle.items.proofs.Splits.{length_bytes}
 use Rattle.items_r7rs.proofs.Reading.{eats, whole, eats-whole}
-use Rattle.items_writing.specs.declared.Stand.{Stand}
-use Rattle.items_writing.specs.declared.Stand.TheVariants.{Ends, Apart}
 use Rattle.items_writing.specs.Written.{gap, is_part, is_word, bare}
 use Rattle.items_writing.specs.Decide.{close_of, stand_from, name_word, name_run, is_name, stands_as, decide}
 use Rattle.items_writing.proofs.ReadsBack.{later, word_starts}
@@ -68,9 +66,9 @@ module _ (p : Place) (a b : ℕ) where
 
   run_named : (q : Parsed) (raw : List ℕ) → is_word a b (items_of true p a b (run_means q a b raw)) ≡ name_run q raw
   unfolding run_means
-  run_named (parsed.Is x) raw = refl
-  run_named parsed.NoNumber raw = word_named raw
-  run_named parsed.ZeroDenominator raw = refl
+  run_named (Ok x) raw = refl
+  run_named (Err parsed.NoNumber) raw = word_named raw
+  run_named (Err parsed.ZeroDenominator) raw = refl
 
   lined_named : (raw : List ℕ) → is_word a b (items_of true p a b (means kind.Identifier 0 (lined_text a b raw) ∷ [])) ≡ false
   unfolding lined_text
@@ -80,10 +78,10 @@ module _ (p : Place) (a b : ℕ) where
       (λ f. rw f (other_text kind.Identifier 0 (decoded (unescape Lines (drop 1 raw))) refl))
       (λ f. rw f (other_text kind.Identifier 0 (source (a + 1) (b - 1)) (rw e)))
 
-  character_named : (v : CharValue) → is_word a b (items_of true p a b (character_means v)) ≡ false
-  character_named (Scalar c) = refl
-  character_named (Wrong n d) = no_text (kind.first_error + n) d
-  character_named (WrongAt n d q) = no_text (kind.first_error + n) d
+  character_named : (v : Result ℕ CharError) → is_word a b (items_of true p a b (character_means v)) ≡ false
+  character_named (Ok c) = refl
+  character_named (Err (Wrong n d)) = no_text (kind.first_error + n) d
+  character_named (Err (WrongAt n d q)) = no_text (kind.first_error + n) d
 
   meant_named : (o : Outcome) (raw : List ℕ) → is_word a b (items_of true p a b (meaning_of true o a b raw)) ≡ is_name o raw
   unfolding is_name
@@ -112,9 +110,9 @@ elsewhere p a b e (m ∷ []) (i ∷ is) h f = refl
 elsewhere p a b e (m ∷ n ∷ ms) is h f = refl
 
 -- how a scan of the word and the gap goes
-abbrev pub Scanned : Stand → Bool → SoFar → Read → Type 0
-Scanned (Ends o) last j r = r ≡ got o j (gap last)
-Scanned Apart last j r = eqb r.item.at j.at ≡ false
+abbrev pub Scanned : Option Outcome → Bool → SoFar → Read → Type 0
+Scanned (Some o) last j r = r ≡ got o j (gap last)
+Scanned None last j r = eqb r.item.at j.at ≡ false
 
 eats_further : (i : SoFar) (t : List ℕ) → i.at ≤ (eats i t).at
 eats_further i [] = omega arith
@@ -145,7 +143,7 @@ after_gap false (suc zero) p n = refl
 after_gap false (suc (suc turns)) p n = refl
 
 module _ (c : ℕ) (t : List ℕ) (last : Bool) (a turns : ℕ) (b : is_blank c ≡ false) where
-  abbrev stand : Stand
+  abbrev stand : Option Outcome
   stand = stand_from last (on_first (first_of c)) (eat (so_far [] a) c) t
 
   abbrev r : Read
@@ -156,15 +154,15 @@ module _ (c : ℕ) (t : List ℕ) (last : Bool) (a turns : ℕ) (b : is_blank c 
       let x = stands last (on_first (first_of c)) (eat (so_far [] a) c) t in
       subst (λ (j : SoFar). Scanned stand last j r) (eats-whole a (c ∷ t)) (rw (item_same true a c (t ++ gap last)) at x)
 
-  by_stand : (s : Stand) → Scanned s last (whole a (c ∷ t)) r
+  by_stand : (s : Option Outcome) → Scanned s last (whole a (c ∷ t)) r
       → is_word a (a + byte_count (c ∷ t)) (extent_items true unset a r.what r.item ++ items_from true turns (range_after true unset a r.what r.item) r.item.at r.rest)
       ≡ stands_as s (bytes_of (c ∷ t))
   unfolding extent_items
-  by_stand (Ends o) q =
+  by_stand (Some o) q =
       let e : ℕ = a + byte_count (c ∷ t) in
       let p : Place = range_after true unset a o (whole a (c ∷ t)) in
       rw q (rw (after_gap last turns p e, append-nil (items_of true p a e (meaning_of true o a e (bytes_of (c ∷ t))))) (meant_named p a e o (bytes_of (c ∷ t))))
-  by_stand Apart q =
+  by_stand None q =
       let p : Place = range_after true unset a r.what r.item in
       let ms : List Meaning = meaning_of true r.what a r.item.at r.item.bytes in
       let f : OneOrTwo (extent_items true unset a r.what r.item) = few_items true unset a r.what r.item in

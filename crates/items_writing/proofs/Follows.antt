@@ -1,4 +1,5 @@
 -- A word that is read as one extent before what `gap` stands for is read so before anything that follows there.
+use Rattle.std.proofs.Common.{Err, Ok, Result}
 use Prim.Native.Nat.{ℕ, ◌+◌, ◌<◌}
 use mathlib.Core.Path.{◌≡◌, refl, sym, ap, ◌∙◌}
 use mathlib.Core.Bool.{Bool, true, false}
@@ -8,8 +9,8 @@ use Rattle.laws.specs.Quoted.{code}
 use Rattle.chars.specs.Encode.{bytes_of}
 use Rattle.items.specs.declared.Outcome.{Outcome}
 use Rattle.items.specs.declared.Outcome.TheVariants.{Token, Str, HereStr, Word, Run, Lined, Keyword, Character, Error, ErrorAt}
-use Rattle.items.specs.declared.CharValue.{CharValue}
-use Rattle.items.specs.declared.CharValue.TheVariants.{Scalar, Wrong, WrongAt}
+use Rattle.items.specs.declared.CharError.{CharError}
+use Rattle.items.specs.declared.CharError.TheVariants.{Wrong, WrongAt}
 use Rattle.items.specs.declared.Phase.{Phase}
 use Rattle.items.specs.declared.Next.TheVariants.{Stop}
 use Rattle.items.specs.Machine.{step_of, scan_of}
@@ -72,12 +73,12 @@ read_anyhow a c t o w e h last {cs} f at = read_before a c t false o w e h cs (�
 
 -- ---- an outcome that is no error
 
-good_character : (v : CharValue) {m : Meaning} {ms : List Meaning} → character_means v ≡ m ∷ ms → m.kind < kind.first_error
+good_character : (v : Result ℕ CharError) {m : Meaning} {ms : List Meaning} → character_means v ≡ m ∷ ms → m.kind < kind.first_error
     → (last : Place) (s : ℕ) (i : SoFar) → character_sets true v last s i ≡ last
-good_character (Scalar c) e h last s i = refl
-good_character (Wrong n d) {m} e h last s i =
+good_character (Ok c) e h last s i = refl
+good_character (Err (Wrong n d)) {m} e h last s i =
     let f : kind.first_error + n ≡ m.kind = cc in absurd (omega arith)
-good_character (WrongAt n d p) {m} e h last s i =
+good_character (Err (WrongAt n d p)) {m} e h last s i =
     let f : kind.first_error + n ≡ m.kind = cc in absurd (omega arith)
 
 -- of an item that is no error the outcome sets no range

@@ -1,4 +1,5 @@
 -- An item is read alike wherever it stands: of places, a reader keeps only those of an error's range. `bald` and `flat` leave these out.
+use Rattle.std.proofs.Common.{Err, Ok, Result}
 use Prim.Native.Nat.{ℕ, ◌+◌, ◌-◌}
 use mathlib.Core.Path.{◌≡◌, refl, sym, ap, subst, ◌∙◌}
 use mathlib.Core.Bool.{Bool, true, false}
@@ -15,8 +16,8 @@ use Rattle.items.specs.declared.Phase.{Phase}
 use Rattle.items.specs.declared.Phase.TheVariants as ph
 use Rattle.items.specs.declared.Next.{Next}
 use Rattle.items.specs.declared.Next.TheVariants.{Eat, Stop}
-use Rattle.items.specs.declared.CharValue.{CharValue}
-use Rattle.items.specs.declared.CharValue.TheVariants.{Scalar, Wrong, WrongAt}
+use Rattle.items.specs.declared.CharError.{CharError}
+use Rattle.items.specs.declared.CharError.TheVariants.{Wrong, WrongAt}
 use Rattle.items.specs.Classes.{first_of, InQuotes, in_quotes, ends, escapes, plain, AfterBackslash, after_backslash, simple, hex_x, hex_u, blank, newline, invalid}
 use Rattle.items.specs.Classes.{InHex, in_hex, closes, stops, digit, InTrim, in_trim, space, line, solid}
 use Rattle.items.specs.Machine.{step_of, finish_of, on_first, scan_of, on_quoted, on_escape, on_brace, close_hex, on_hex, on_trim_before, on_trim_after}
@@ -125,10 +126,10 @@ module _ (report : Bool) where
   step_brace stops k from i c = refl
   step_brace digit k from i c = refl
 
-  step_close : (v : CharValue) (k : Quotes) (from n to at : ℕ) (i : SoFar) → next (close_hex report v k from n to i) ≡ next (close_hex report v k 0 n at (still i))
-  step_close (Scalar v) k from n to at i = refl
-  step_close (Wrong e d) k from n to at i = refl
-  step_close (WrongAt e d p) k from n to at i =
+  step_close : (v : Result ℕ CharError) (k : Quotes) (from n to at : ℕ) (i : SoFar) → next (close_hex report v k from n to i) ≡ next (close_hex report v k 0 n at (still i))
+  step_close (Ok v) k from n to at i = refl
+  step_close (Err (Wrong e d)) k from n to at i = refl
+  step_close (Err (WrongAt e d p)) k from n to at i =
       let rest : List ℕ = drop p (drop n i.bytes) in
       ap (λ (o : Outcome). Eat (ph.Done o)) (failing_flat report e d from to (i.at - length rest) rest 0 at (0 - length rest) rest)
 

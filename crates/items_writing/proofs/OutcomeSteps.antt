@@ -1,4 +1,5 @@
 -- What an outcome tells of its item holds on: every step, the end of the text and the first character keep it.
+use Rattle.std.proofs.Common.{Err, Ok, Result}
 use Prim.Native.Nat.{ℕ, ◌-◌}
 use mathlib.Core.Path.{◌≡◌, refl, sym, subst}
 use mathlib.Core.Bool.{Bool, true, false}
@@ -16,8 +17,8 @@ use Rattle.items.specs.declared.Phase.{Phase}
 use Rattle.items.specs.declared.Phase.TheVariants as ph
 use Rattle.items.specs.declared.HashKind.{HashKind}
 use Rattle.items.specs.declared.HashKind.TheVariants.{Decided, Bracket, Undecided}
-use Rattle.items.specs.declared.CharValue.{CharValue}
-use Rattle.items.specs.declared.CharValue.TheVariants.{Scalar, Wrong, WrongAt}
+use Rattle.items.specs.declared.CharError.{CharError}
+use Rattle.items.specs.declared.CharError.TheVariants.{Wrong, WrongAt}
 use Rattle.items.specs.Kinds as kind
 use Rattle.items.specs.Classes.{first_of, starts_run, First}
 use Rattle.items.specs.Classes.{InQuotes, in_quotes, ends, escapes, plain, AfterBackslash, after_backslash, simple, hex_x, hex_u, blank, newline, invalid}
@@ -71,10 +72,10 @@ module _ (v : List ℕ) (c : ℕ) where
   goes_brace report stops k from i h = tt
   goes_brace report digit k from i h = quoted_on k v c h
 
-  goes_close : (report : Bool) (w : CharValue) (k : Quotes) (from n to : ℕ) (i : SoFar) → InQuoted v k → Goes v c (close_hex report w k from n to i)
-  goes_close report (Scalar x) k from n to i h = quoted_on k v c h
-  goes_close report (Wrong e d) k from n to i h = tt
-  goes_close report (WrongAt e d p) k from n to i h =
+  goes_close : (report : Bool) (w : Result ℕ CharError) (k : Quotes) (from n to : ℕ) (i : SoFar) → InQuoted v k → Goes v c (close_hex report w k from n to i)
+  goes_close report (Ok x) k from n to i h = quoted_on k v c h
+  goes_close report (Err (Wrong e d)) k from n to i h = tt
+  goes_close report (Err (WrongAt e d p)) k from n to i h =
       let rest : List ℕ = drop p (drop n i.bytes) in
       known_failing report e d from to (i.at - length rest) rest (v ++ (c ∷ []))
 

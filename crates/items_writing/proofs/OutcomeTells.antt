@@ -23,8 +23,6 @@ use Rattle.items.specs.declared.Next.TheVariants.{Eat, Stop}
 use Rattle.items.specs.declared.HashKind.{HashKind}
 use Rattle.items.specs.declared.HashKind.TheVariants.{Decided, Bracket, Undecided}
 use Rattle.items.specs.Kinds as kind
-use Rattle.items.specs.Classes.{InWord, InRun, AfterHash}
-use Rattle.items.specs.Classes.{InHash}
 use Rattle.items.specs.Readers.{first_is, last_is, lined_of, closed, unclosed, cut, bool_kind, quote_kind, form_kind, or_else, hash_kind}
 use Rattle.items_writing.proofs.FirstLine.{other_start, other_next}
 

@@ -1,4 +1,5 @@
 -- The code's decision on a pair is the definition's `splits`.
+use Rattle.std.proofs.Common.{None, Option, Some, Ok, Err, Result}
 use Prim.Native.Nat.{ℕ, suc, ◌+◌, ◌≤◌, ◌<◌}
 use mathlib.Core.Path.{◌≡◌, refl, sym, ap, subst, ◌∙◌}
 use mathlib.Core.Bool.{Bool, true, false, not, ◌&&◌}
@@ -14,18 +15,16 @@ use Rattle.laws.proofs.Choice.{by_bool, and_true, and_yes, and_no, no_yes}
 use Rattle.chars.specs.Blank.{is_blank}
 use Rattle.chars.specs.Encode.{utf8, width, bytes_of}
 use Rattle.chars.specs.Utf8.{chars, first_bad}
-use Rattle.chars.specs.declared.Utf8.TheVariants.{Good}
 use Rattle.chars.proofs.Good.{Scalars, good_bytes_lem, good_scalars}
 use Rattle.chars.proofs.Chars.{chars-char}
 use Rattle.chars.proofs.Round.{one_read}
 use Rattle.chars.proofs.Width.{width-utf8}
-use Rattle.numbers.specs.declared.Parsed.{Parsed}
-use Rattle.numbers.specs.declared.Parsed.TheVariants as parsed
-use Rattle.numbers.specs.Grammar.{parse_number, numeric}
+use Rattle.numbers.specs.declared.ParseError.TheVariants as parsed
+use Rattle.numbers.specs.Grammar.{parse_number, numeric, Parsed}
 use Rattle.items.specs.declared.Outcome.{Outcome}
 use Rattle.items.specs.declared.Outcome.TheVariants.{Token, Str, HereStr, Word, Run, Lined, Keyword, Character, Error, ErrorAt}
-use Rattle.items.specs.declared.CharValue.{CharValue}
-use Rattle.items.specs.declared.CharValue.TheVariants.{Scalar, Wrong, WrongAt}
+use Rattle.items.specs.declared.CharError.{CharError}
+use Rattle.items.specs.declared.CharError.TheVariants.{Wrong, WrongAt}
 use Rattle.items.specs.declared.Quotes.TheVariants.{Lines}
 use Rattle.items.specs.declared.Phase.TheVariants as ph
 use Rattle.items.specs.Classes.{first_of, starts_run, in_word, in_run, stays_run, ends_run}
@@ -42,8 +41,6 @@ use Rattle.steps.proofs.Kept.{kept_stays}
 use Rattle.items_r7rs.proofs.Reading.{whole}
 use Rattle.items_r7rs.proofs.Bytes.{utf8_low, bytes_ascii}
 use Rattle.items_r7rs.proofs.Written.{stays_ascii}
-use Rattle.items_writing.specs.declared.Stand.{Stand}
-use Rattle.items_writing.specs.declared.Stand.TheVariants.{Ends, Apart}
 use Rattle.items_writing.specs.Written.{gap, is_part, named, is_pair, splits}
 use Rattle.items_writing.specs.Decide.{stand_from, is_pair_of, pairs_as, lines_as}
 use Rattle.items_writing.proofs.Places.{tested, plus_spelled, plus_scalars}
@@ -104,14 +101,14 @@ module _ (p : Place) (t : List ℕ) where
 
   run_pair : (q : Parsed) → is_pair n (items_of true p 0 n (run_means q 0 n raw)) ≡ (ltb 0 (length t) && not (numeric q))
   unfolding run_means
-  run_pair (parsed.Is x) = sym (and_no (ltb 0 (length t)))
-  run_pair parsed.NoNumber = word_pair ∙ sym (and_yes (ltb 0 (length t)))
-  run_pair parsed.ZeroDenominator = sym (and_no (ltb 0 (length t)))
+  run_pair (Ok x) = sym (and_no (ltb 0 (length t)))
+  run_pair (Err parsed.NoNumber) = word_pair ∙ sym (and_yes (ltb 0 (length t)))
+  run_pair (Err parsed.ZeroDenominator) = sym (and_no (ltb 0 (length t)))
 
-  character_pair : (v : CharValue) → is_pair n (items_of true p 0 n (character_means v)) ≡ false
-  character_pair (Scalar c) = refl
-  character_pair (Wrong e d) = refl
-  character_pair (WrongAt e d q) = refl
+  character_pair : (v : Result ℕ CharError) → is_pair n (items_of true p 0 n (character_means v)) ≡ false
+  character_pair (Ok c) = refl
+  character_pair (Err (Wrong e d)) = refl
+  character_pair (Err (WrongAt e d q)) = refl
 
   meant_pair : (o : Outcome) → is_pair n (items_of true p 0 n (meaning_of true o 0 n raw)) ≡ is_pair_of o t
   unfolding is_pair_of
@@ -146,7 +143,7 @@ elsewhere p b e (m ∷ o ∷ l ∷ ms) is h f = refl
 -- ---- a plus and t
 
 module _ (v : List ℕ) where
-  abbrev stand : Stand
+  abbrev stand : Option Outcome
   stand = stand_from false ph.InRun (eat (so_far [] 0) (code "+")) v
 
   abbrev r : Read
@@ -163,18 +160,18 @@ module _ (v : List ℕ) where
       → is_pair b (items_of true p 0 e (meaning_of true o 0 e raw)) ≡ is_pair_of o (bytes_of v)
   ends_is p o b e raw f g h = rw (g, f, h) (meant_pair p (bytes_of v) o)
 
-  by_stand : (turns : ℕ) (s : Stand) → Scanned s false (whole 0 (code "+" ∷ v)) r
+  by_stand : (turns : ℕ) (s : Option Outcome) → Scanned s false (whole 0 (code "+" ∷ v)) r
       → is_pair (byte_count (code "+" ∷ v)) (extent_items true unset 0 r.what r.item ++ items_from true turns (range_after true unset 0 r.what r.item) r.item.at r.rest)
       ≡ pairs_as s (bytes_of v)
   unfolding extent_items
-  by_stand turns (Ends o) q =
+  by_stand turns (Some o) q =
       let e : ℕ = 0 + byte_count (code "+" ∷ v) in
       let z : e ≡ byte_count (code "+" ∷ v) = omega arith in
       let l : byte_count (code "+" ∷ v) ≡ length (code "+" ∷ bytes_of v) = sym (length_bytes (code "+" ∷ v)) ∙ ap length spelled in
       let p : Place = range_after true unset 0 o (whole 0 (code "+" ∷ v)) in
       rw q (rw (after_gap false turns p e, append-nil (items_of true p 0 e (meaning_of true o 0 e (bytes_of (code "+" ∷ v)))))
       (ends_is p o (byte_count (code "+" ∷ v)) e (bytes_of (code "+" ∷ v)) l z spelled))
-  by_stand turns Apart q =
+  by_stand turns None q =
       let z : 0 + byte_count (code "+" ∷ v) ≡ byte_count (code "+" ∷ v) = omega arith in
       let p : Place = range_after true unset 0 r.what r.item in
       let ms : List Meaning = meaning_of true r.what 0 r.item.at r.item.bytes in
@@ -246,7 +243,7 @@ module _ (i j : SoFar) where
 
 -- ---- by bytes, where the run ends at k: what each branch of the code says
 
-module _ (s : List ℕ) (good : first_bad s ≡ Good) (k : ℕ) (ends : k ≡ 0 + span of_run s) where
+module _ (s : List ℕ) (good : first_bad s ≡ None) (k : ℕ) (ends : k ≡ 0 + span of_run s) where
   is_run : span of_run s ≡ k
   is_run = omega (arith, ends)
 
@@ -260,20 +257,20 @@ module _ (s : List ℕ) (good : first_bad s ≡ Good) (k : ℕ) (ends : k ≡ 0 
   unfolding stand_from utf8 width
   past_plus =
       subst (λ (x : List ℕ). splits (code "+" ∷ x) ≡ pairs_as (stand (chars s)) x) (good_bytes_lem s good) (splits_decided (chars s) (good_scalars s good))
-      ∙ (ap (λ (w : Stand). pairs_as w s) (run_on s (so_far (code "+" ∷ []) 1)) ∙ rw is_run)
+      ∙ (ap (λ (w : Option Outcome). pairs_as w s) (run_on s (so_far (code "+" ∷ []) 1)) ∙ rw is_run)
 
   -- no vertical line
-  module _ {w : Stand} (e : w ≡ stand_from false ph.InRun (so_far (take k s) k) (chars rest)) (no : false ≡ starts (code "|") rest) where
+  module _ {w : Option Outcome} (e : w ≡ stand_from false ph.InRun (so_far (take k s) k) (chars rest)) (no : false ≡ starts (code "|") rest) where
     without_plus : splits (code "+" ∷ s) ≡ pairs_as w s
     without_plus =
         let u : bytes_of (chars rest) ≡ rest = rw is_run at (rest_whole s (good_bytes_lem s good)) in
         let z : span of_run rest ≡ 0 = rw is_run at (rest_ends s) in
-        past_plus ∙ ap (λ (x : Stand). pairs_as x s) (none_left (so_far (code "+" ∷ take k s) (1 + k)) (so_far (take k s) k) (chars rest) (rw u z) (rw u (sym no)) ∙ sym e)
+        past_plus ∙ ap (λ (x : Option Outcome). pairs_as x s) (none_left (so_far (code "+" ∷ take k s) (1 + k)) (so_far (take k s) k) (chars rest) (rw u z) (rw u (sym no)) ∙ sym e)
 
-    pub pair_ends : {o : Outcome} {r : Bool} → w ≡ Ends o → r ≡ is_pair_of o s → r ≡ splits (code "+" ∷ s)
+    pub pair_ends : {o : Outcome} {r : Bool} → w ≡ Some o → r ≡ is_pair_of o s → r ≡ splits (code "+" ∷ s)
     pair_ends f g = g ∙ sym (without_plus ∙ rw f)
 
-    pub pair_apart : w ≡ Apart → false ≡ splits (code "+" ∷ s)
+    pub pair_apart : w ≡ None → false ≡ splits (code "+" ∷ s)
     pair_apart f = sym (without_plus ∙ rw f)
 
   -- a vertical line

@@ -1,4 +1,5 @@
 -- What ends an item in a phase: a space that ends it leaves it what the end of the text leaves it.
+use Rattle.std.proofs.Common.{Err, Ok, Result}
 use Prim.Native.Nat.{ℕ}
 use mathlib.Core.Path.{◌≡◌, refl, sym, ◌∙◌}
 use mathlib.Core.Bool.{true}
@@ -17,12 +18,12 @@ use Rattle.items.specs.declared.Phase.TheVariants as ph
 use Rattle.items.specs.declared.Next.TheVariants.{Eat, Stop}
 use Rattle.items.specs.declared.HashKind.{HashKind}
 use Rattle.items.specs.declared.HashKind.TheVariants.{Decided, Bracket, Undecided}
-use Rattle.items.specs.declared.CharValue.{CharValue}
-use Rattle.items.specs.declared.CharValue.TheVariants.{Scalar, Wrong, WrongAt}
+use Rattle.items.specs.declared.CharError.{CharError}
+use Rattle.items.specs.declared.CharError.TheVariants.{Wrong, WrongAt}
 use Rattle.items.specs.Classes.{InQuotes, in_quotes, ends, escapes, plain, after_backslash}
 use Rattle.items.specs.Classes.{InHex, in_hex, closes, stops, digit, InTrim, in_trim, space, line, solid, InNest, in_nest, bar, sharp, inside}
-use Rattle.items.specs.Classes.{InWord, in_word, InRun, in_run, AfterHash, after_hash}
-use Rattle.items.specs.Classes.{InHash, in_hash, InDelim, in_delim, ends_delim, returns, blank_delim, of_delim}
+use Rattle.items.specs.Classes.{in_word, in_run, after_hash}
+use Rattle.items.specs.Classes.{in_hash, InDelim, in_delim, ends_delim, returns, blank_delim, of_delim}
 use Rattle.items.specs.Classes.{breaks_word, stays_run, ends_run, ends_hash}
 use Rattle.items.specs.Machine.{step_of, finish_of, on_nest, on_bar, on_sharp, on_quoted, on_brace, close_hex, on_hex, on_trim_after}
 use Rattle.items.specs.Machine.{enter_word, hash_then, hash_last, on_delim}
@@ -62,10 +63,10 @@ trim_eats space k i c e = eats_on e
 trim_eats line k i c e = eats_on e
 trim_eats solid k i c e = quoted_eats (in_quotes k c) k i c e
 
-close_eats : (v : CharValue) (k : Quotes) (from n to : ℕ) (i : SoFar) {o : Outcome} → close_hex true v k from n to i ≡ Stop o → ⊥
-close_eats (Scalar v) k from n to i e = eats_on e
-close_eats (Wrong x d) k from n to i e = eats_on e
-close_eats (WrongAt x d p) k from n to i e = eats_on e
+close_eats : (v : Result ℕ CharError) (k : Quotes) (from n to : ℕ) (i : SoFar) {o : Outcome} → close_hex true v k from n to i ≡ Stop o → ⊥
+close_eats (Ok v) k from n to i e = eats_on e
+close_eats (Err (Wrong x d)) k from n to i e = eats_on e
+close_eats (Err (WrongAt x d p)) k from n to i e = eats_on e
 
 pub hex_eats : (x : InHex) (k : Quotes) (closer from n : ℕ) (i : SoFar) (c : ℕ) {o : Outcome} → on_hex true x k closer from n i c ≡ Stop o → ⊥
 hex_eats closes k closer from n i c e = close_eats (scalar_of (hex_value (drop n i.bytes))) k from n (eat i c).at i e

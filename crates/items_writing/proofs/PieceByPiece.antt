@@ -1,19 +1,19 @@
 -- What is written is a piece a turn.
+use Rattle.std.proofs.Common.{None, Option}
+use Rattle.items.specs.declared.Quotes.{Quotes}
 use Prim.Native.Nat.{ℕ, ◌+◌, ◌≤◌, ◌<◌}
 use mathlib.Core.Path.{◌≡◌, refl, sym, ap, ◌∙◌}
 use mathlib.Core.Bool.{Bool, true, false, not, ◌&&◌}
 use mathlib.Core.List.{List, [], ◌∷◌, ◌++◌, append-nil}
 use lib.Dec.{eqb}
 use native.Mathlib.Omega.{arith}
-use borrow.Author.Tests.{eq-eqb, ne_eqb}
+use borrow.Author.Tests.{eq-eqb}
 use Rattle.laws.specs.Quoted.{code, codes}
 use Rattle.laws.specs.Texts.{same}
 use Rattle.laws.proofs.Choice.{by_bool, and_true}
 use Rattle.laws.proofs.Compared.{same_is}
 use Rattle.chars.specs.Encode.{utf8, bytes_of, spelled}
 use Rattle.items.specs.Kinds as kind
-use Rattle.items_writing.specs.declared.Form.{Form}
-use Rattle.items_writing.specs.declared.Form.TheVariants.{AsIs}
 use Rattle.items_writing.specs.declared.WriteWords.{WriteWords}
 use Rattle.items_writing.specs.Written.{Entry, gap, bare, splits, identifier, word_of, twins, joined, written}
 use Rattle.items_writing.specs.Records.{count_of, words_at, rest, records_in, is_right, entry_of, entries_of}
@@ -78,11 +78,11 @@ module _ (first : Bool) (e : Entry) where
           let d = and_true (eqb e.kind kind.Identifier && eqb f.kind kind.Identifier) (eqb e.start f.start) c.0 in
           (and_true (eqb e.kind kind.Identifier) (eqb f.kind kind.Identifier) d.0).1
 
-      pair_word : gap first ++ (e.text ++ f.text) ≡ piece first true AsIs (body_of f)
+      pair_word : gap first ++ (e.text ++ f.text) ≡ piece first true None (body_of f)
       unfolding piece
       pair_word = rw (the_plus, its_kind, gap-lone first)
 
-      pair_piece : written first (e ∷ f ∷ es) ≡ piece first true AsIs (body_of f) ++ written false es
+      pair_piece : written first (e ∷ f ∷ es) ≡ piece first true None (body_of f) ++ written false es
       pair_piece = written-joined first e f es q ∙ ap (λ (l : List ℕ). l ++ written false es) pair_word
 
 -- ---- by places
@@ -105,49 +105,22 @@ module _ (records source text : List ℕ) (first : Bool) (p : ℕ) (h : p < coun
     at_more q = rw (rest_cons records p h, rest_cons records (p + 1) g) (more_piece first (entry_here p) (entry_here (p + 1)) (entries_of source text (rest records (p + 1 + 1))) q)
 
     pub at_pair : joined (entry_here p) (entry_here (p + 1)) ≡ true
-        → onward records source text first p ≡ piece first true AsIs (body_of (entry_here (p + 1))) ++ after (p + 1 + 1)
+        → onward records source text first p ≡ piece first true None (body_of (entry_here (p + 1))) ++ after (p + 1 + 1)
     at_pair q = rw (rest_cons records p h, rest_cons records (p + 1) g) (pair_piece first (entry_here p) (entry_here (p + 1)) (entries_of source text (rest records (p + 1 + 1))) q)
 
 pub at_end_case : (records source text : List ℕ) (first : Bool) (p : ℕ) → count_of records ≤ p → onward records source text first p ≡ []
 unfolding written
 at_end_case records source text first p h = rw (rest_end records p h)
 
--- ---- whether two are joined, test by test
+-- ---- two that are joined
 
-module _ (e f : Entry) where
-  pub apart_first : (e.kind ≡ kind.Identifier → ⊥) → false ≡ joined e f
-  unfolding joined twins
-  apart_first h = rw (ne_eqb e.kind kind.Identifier h)
-
-  module _ (a : e.kind ≡ kind.Identifier) where
-    pub apart_second : (f.kind ≡ kind.Identifier → ⊥) → false ≡ joined e f
-    unfolding joined twins
-    apart_second h = rw (eq-eqb e.kind kind.Identifier a, ne_eqb f.kind kind.Identifier h)
-
-    module _ (b : f.kind ≡ kind.Identifier) where
-      pub apart_start : (e.start ≡ f.start → ⊥) → false ≡ joined e f
-      unfolding joined twins
-      apart_start h = rw (eq-eqb e.kind kind.Identifier a, eq-eqb f.kind kind.Identifier b, ne_eqb e.start f.start h)
-
-      module _ (c : e.start ≡ f.start) where
-        pub apart_end : (e.end ≡ f.end → ⊥) → false ≡ joined e f
-        unfolding joined twins
-        apart_end h = rw (eq-eqb e.kind kind.Identifier a, eq-eqb f.kind kind.Identifier b, eq-eqb e.start f.start c, ne_eqb e.end f.end h)
-
-        module _ (d : e.end ≡ f.end) {x : List ℕ} (is : x ≡ e.text) {r : Bool} (q : r ≡ same x (codes "+")) where
-          pub apart_text : r ≡ false → false ≡ joined e f
-          unfolding joined twins bytes_of utf8
-          apart_text h =
-              let z : same e.text (codes "+") ≡ false = ap (λ (l : List ℕ). same l (codes "+")) (sym is) ∙ (sym q ∙ h) in
-              rw (eq-eqb e.kind kind.Identifier a, eq-eqb f.kind kind.Identifier b, eq-eqb e.start f.start c, eq-eqb e.end f.end d, z)
-
-          pub joined_so : {y : List ℕ} {s : Bool} → r ≡ true → y ≡ f.text → s ≡ splits (code "+" ∷ y) → s ≡ joined e f
-          unfolding joined twins bytes_of utf8
-          joined_so {y} {s} h g k =
-              let z : same e.text (codes "+") ≡ true = ap (λ (l : List ℕ). same l (codes "+")) (sym is) ∙ (sym q ∙ h) in
-              let t : e.text ≡ codes "+" = same_is e.text (codes "+") z in
-              rw (eq-eqb e.kind kind.Identifier a, eq-eqb f.kind kind.Identifier b, eq-eqb e.start f.start c, eq-eqb e.end f.end d, z)
-              (k ∙ (ap (λ (l : List ℕ). splits (code "+" ∷ l)) g ∙ ap (λ (l : List ℕ). splits (l ++ f.text)) (sym t)))
+pub joined_so : (e f : Entry) → e.kind ≡ kind.Identifier → f.kind ≡ kind.Identifier → e.start ≡ f.start → e.end ≡ f.end → same e.text (codes "+") ≡ true
+    → {y : List ℕ} {s : Bool} → y ≡ f.text → s ≡ splits (code "+" ∷ y) → s ≡ joined e f
+unfolding joined twins bytes_of utf8
+joined_so e f a b c d z g k =
+    let t : e.text ≡ codes "+" = same_is e.text (codes "+") z in
+    rw (eq-eqb e.kind kind.Identifier a, eq-eqb f.kind kind.Identifier b, eq-eqb e.start f.start c, eq-eqb e.end f.end d, z)
+    (k ∙ (ap (λ (l : List ℕ). splits (code "+" ∷ l)) g ∙ ap (λ (l : List ℕ). splits (l ++ f.text)) (sym t)))
 
 -- ---- a turn
 
@@ -155,7 +128,7 @@ module _ (records source text : List ℕ) (first : Bool) (p : ℕ) (h : p < coun
   pub here_right : is_right source text w ≡ true
   here_right = ap (is_right source text) e ∙ right_at records source text p all h
 
-  module _ (last : Bool) {b : List ℕ} {f : Form} (y : b ≡ body_of (entry_of source text w)) (x : f ≡ form_for w.kind first last b) where
+  module _ (last : Bool) {b : List ℕ} {f : Option Quotes} (y : b ≡ body_of (entry_of source text w)) (x : f ≡ form_for w.kind first last b) where
     form_is : f ≡ form_for (words_at records p).kind first last (body_of (entry_at records source text p))
     form_is = x ∙ (ap (form_for w.kind first last) y ∙ ap (λ (u : WriteWords). form_for u.kind first last (body_of (entry_of source text u))) e)
 
@@ -167,10 +140,10 @@ module _ (records source text : List ℕ) (first : Bool) (p : ℕ) (h : p < coun
       from = omega arith;
       inside = h;
       body_right = right_at records source text p all h;
-      goes = g ∙ ap (λ (q : Form). piece first false q (body_of (entry_at records source text p)) ++ onward records source text false (p + 1)) (sym form_is);
+      goes = g ∙ ap (λ (q : Option Quotes). piece first false q (body_of (entry_at records source text p)) ++ onward records source text false (p + 1)) (sym form_is);
     }
 
-  pub said_last : count_of records ≤ p + 1 → {b : List ℕ} {f : Form} → b ≡ body_of (entry_of source text w) → f ≡ form_for w.kind first true b
+  pub said_last : count_of records ≤ p + 1 → {b : List ℕ} {f : Option Quotes} → b ≡ body_of (entry_of source text w) → f ≡ form_for w.kind first true b
       → TurnSaid records source text first p (record { last = p; pair = false; form = f })
   said_last g y x = said true y x (at_last records source text first p h g)
 
@@ -178,11 +151,11 @@ module _ (records source text : List ℕ) (first : Bool) (p : ℕ) (h : p < coun
     asked : j ≡ joined (entry_at records source text p) (entry_at records source text (p + 1))
     asked = q ∙ (ap (λ (u : WriteWords). joined (entry_of source text u) (entry_of source text v)) e ∙ ap (λ (u : WriteWords). joined (entry_at records source text p) (entry_of source text u)) d)
 
-    pub said_more : j ≡ false → {b : List ℕ} {f : Form} → b ≡ body_of (entry_of source text w) → f ≡ form_for w.kind first false b
+    pub said_more : j ≡ false → {b : List ℕ} {f : Option Quotes} → b ≡ body_of (entry_of source text w) → f ≡ form_for w.kind first false b
         → TurnSaid records source text first p (record { last = p; pair = false; form = f })
     said_more z y x = said false y x (at_more records source text first p h g (sym asked ∙ z))
 
-    pub said_pair : j ≡ true → TurnSaid records source text first p (record { last = p + 1; pair = true; form = AsIs })
+    pub said_pair : j ≡ true → TurnSaid records source text first p (record { last = p + 1; pair = true; form = None })
     said_pair z = record {
       from = omega arith;
       inside = g;

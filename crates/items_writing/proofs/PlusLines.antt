@@ -1,5 +1,7 @@
 -- Vertical lines after a plus, `+a|b c|`: of what stands before the first line the machine looks at nothing but, at their end, the first
 -- byte. So they close after a plus, as a word, exactly where they close with nothing before them, as an identifier in vertical lines.
+use Rattle.std.proofs.Common.{Option}
+use Rattle.items.specs.declared.Outcome.{Outcome}
 use Prim.Native.Nat.{ℕ, suc, ◌+◌, ◌<◌}
 use mathlib.Core.Path.{◌≡◌, refl, ap, ◌∙◌}
 use mathlib.Core.Bool.{false}
@@ -19,7 +21,6 @@ use Rattle.items.specs.Classes.{in_quotes, ends, after_backslash, in_hex, stops_
 use Rattle.items.specs.Readers.{SoFar, eat, lined_of, scalar_of}
 use Rattle.items.proofs.Cases.{by_quotes, by_backslash, by_hex, by_trim, by_value}
 use Rattle.items_r7rs.proofs.Lined.{last_line}
-use Rattle.items_writing.specs.declared.Stand.{Stand}
 use Rattle.items_writing.specs.Decide.{stand_from, is_pair_of, pairs_as, is_lined, lines_as}
 
 -- ---- the end of the lines
@@ -53,7 +54,7 @@ past_front (b ∷ p) l n = let e : suc (length p) + n ≡ suc (length p + n) = o
 -- ---- the machine in the lines, p between the plus and them, t all that follows the plus
 
 module _ (p t : List ℕ) (some : 0 < length t) where
-  abbrev pub Pairs : Stand → Stand → Type 0
+  abbrev pub Pairs : Option Outcome → Option Outcome → Type 0
   Pairs s w = pairs_as s t ≡ lines_as w
 
   -- two items so far: after the plus and p, and alone

@@ -1,10 +1,11 @@
 -- A text in quotes as the loops count and lay it: its opening mark, then a byte at a time, with a backslash where one stands before it.
+use Rattle.std.proofs.Common.{None, Option, Some}
 use Prim.Native.Nat.{ℕ, ◌+◌, ◌-◌, ◌*◌, ◌≤◌, ◌<◌}
-use mathlib.Core.Path.{◌≡◌, refl, sym, ap, subst, ◌∙◌}
+use mathlib.Core.Path.{◌≡◌, refl, sym, ap, ◌∙◌}
 use mathlib.Core.Bool.{Bool, true, false}
 use mathlib.Core.List.{List, [], ◌∷◌, ◌++◌, append_assoc, append-nil}
 use lib.ListN.{length, get_or, take, drop, set, length-append, take-append-drop}
-use lib.Seq.{take-suc, take_all, length-take-le}
+use lib.Seq.{take-suc, take_all}
 use lib.Dec.{eqb}
 use native.Mathlib.Omega.{arith}
 use native.Mathlib.Numerals.{add-one}
@@ -16,8 +17,6 @@ use Rattle.laws.proofs.Lent.{length-written, length_part, written_push, part_wri
 use Rattle.items.specs.declared.Quotes.{Quotes}
 use Rattle.items.specs.Classes.{delim_of}
 use Rattle.items_writing.specs.Written.{escape, quoted}
-use Rattle.items_writing.specs.declared.Form.{Form}
-use Rattle.items_writing.specs.declared.Form.TheVariants.{AsIs, Within}
 use Rattle.items_writing.specs.Pieces.{is_marked, escaped_byte, escaped_by, quoted_by, lone, shown}
 
 -- ---- one byte
@@ -121,17 +120,7 @@ pub quoted_by_lem : (k : Quotes) (t : List ℕ) {m : ℕ} → m ≡ delim_of k �
 unfolding quoted
 quoted_by_lem k t e = rw (e, escape_by k t)
 
--- ---- a text as it is
-
-module _ (t old : List ℕ) where
-  pub copied_on : {out : List ℕ} (i : ℕ) → out ≡ written (take i t) old → i < length t → length t ≤ length old → set out i (get_or t i 0) ≡ written (take (i + 1) t) old
-  copied_on {out} i e h g =
-      let s : length (take i t) ≡ i = length-take-le i t (omega arith) in
-      rw (e, add-one i, take-suc t i 0 h)
-      (subst (λ (n : ℕ). set (written (take i t) old) n (get_or t i 0) ≡ written (take i t ++ (get_or t i 0 ∷ [])) old) s (written_push (take i t) old (get_or t i 0) (omega arith)))
-
-  pub copied_all : {out : List ℕ} (i : ℕ) → out ≡ written (take i t) old → length t ≤ i → out ≡ written t old
-  copied_all i e h = e ∙ ap (λ (v : List ℕ). written v old) (take_all i t h)
+-- ---- a byte or two
 
 module _ (old : List ℕ) where
   pub put_one : (x : ℕ) → 1 ≤ length old → set old 0 x ≡ written (x ∷ []) old
@@ -196,6 +185,6 @@ unfolding escaped_by
 escaped_few mark [] = omega arith
 escaped_few mark (x ∷ t) = omega (arith, length-append (escaped_byte mark x) (escaped_by mark t), (few_bytes mark x).1, escaped_few mark t)
 
-pub shown_few : (f : Form) (t : List ℕ) → length (shown f t) ≤ 2 * length t + 2
-shown_few AsIs t = omega arith
-shown_few (Within k) t = omega (arith, ap length (quoted_by_lem k t refl), quoted_size (delim_of k) t, escaped_few (delim_of k) t)
+pub shown_few : (f : Option Quotes) (t : List ℕ) → length (shown f t) ≤ 2 * length t + 2
+shown_few None t = omega arith
+shown_few (Some k) t = omega (arith, ap length (quoted_by_lem k t refl), quoted_size (delim_of k) t, escaped_few (delim_of k) t)

@@ -1,4 +1,5 @@
 -- A word that the tests `bare` and `splits` call one that reads back does read back, wherever it then stands.
+use Rattle.std.proofs.Common.{Ok, Err, Result}
 use Prim.Native.Nat.{ℕ, suc, ◌+◌, ◌-◌, ◌≤◌, ◌<◌}
 use mathlib.Core.Path.{◌≡◌, refl, sym, ap, ◌∙◌}
 use mathlib.Core.Bool.{Bool, true, false, ◌&&◌}
@@ -13,13 +14,12 @@ use Rattle.laws.proofs.Choice.{by_bool, and_true, no_yes, impossible}
 use Rattle.chars.specs.Blank.{is_blank}
 use Rattle.chars.specs.Encode.{width, bytes_of}
 use Rattle.chars.proofs.Width.{wide}
-use Rattle.numbers.specs.declared.Parsed.{Parsed}
-use Rattle.numbers.specs.declared.Parsed.TheVariants as parsed
-use Rattle.numbers.specs.Grammar.{parse_number}
+use Rattle.numbers.specs.declared.ParseError.TheVariants as parsed
+use Rattle.numbers.specs.Grammar.{parse_number, Parsed}
 use Rattle.items.specs.declared.Outcome.{Outcome}
 use Rattle.items.specs.declared.Outcome.TheVariants.{Token, Str, HereStr, Word, Run, Lined, Keyword, Character, Error, ErrorAt}
-use Rattle.items.specs.declared.CharValue.{CharValue}
-use Rattle.items.specs.declared.CharValue.TheVariants.{Scalar, Wrong, WrongAt}
+use Rattle.items.specs.declared.CharError.{CharError}
+use Rattle.items.specs.declared.CharError.TheVariants.{Wrong, WrongAt}
 use Rattle.items.specs.declared.Quotes.TheVariants.{Lines}
 use Rattle.items.specs.Readers.{Read, got, first_is, read_item}
 use Rattle.items.specs.Meaning.{Text, none, source, decoded, Meaning, means, one, meaning_of, word_kind, word_means, run_means, lined_text, escaped, unescape}
@@ -128,14 +128,14 @@ module _ (a n at : ℕ) (raw : List ℕ) where
   run_anywhere : (p : Parsed) → run_means p a (a + n) raw ≡ one kind.Identifier 0 (source a (a + n))
       → run_means p at (at + n) raw ≡ one kind.Identifier 0 (source at (at + n))
   unfolding run_means
-  run_anywhere (parsed.Is p) h = absurd (omega (arith, ap kind_in h))
-  run_anywhere parsed.NoNumber h = word_anywhere h
-  run_anywhere parsed.ZeroDenominator h = absurd (omega (arith, ap kind_in h))
+  run_anywhere (Ok p) h = absurd (omega (arith, ap kind_in h))
+  run_anywhere (Err parsed.NoNumber) h = word_anywhere h
+  run_anywhere (Err parsed.ZeroDenominator) h = absurd (omega (arith, ap kind_in h))
 
-  character_other : (v : CharValue) {x : Text} {ms : List Meaning} → character_means v ≡ means kind.Identifier 0 x ∷ ms → ⊥
-  character_other (Scalar c) h = omega (arith, ap kind_in h)
-  character_other (Wrong e d) h = omega (arith, ap kind_in h)
-  character_other (WrongAt e d p) h = omega (arith, ap kind_in h)
+  character_other : (v : Result ℕ CharError) {x : Text} {ms : List Meaning} → character_means v ≡ means kind.Identifier 0 x ∷ ms → ⊥
+  character_other (Ok c) h = omega (arith, ap kind_in h)
+  character_other (Err (Wrong e d)) h = omega (arith, ap kind_in h)
+  character_other (Err (WrongAt e d p)) h = omega (arith, ap kind_in h)
 
   -- text in vertical lines starts past its extent
   lined_other : lined_text a (a + n) raw ≡ source a (a + n) → ⊥
@@ -175,9 +175,9 @@ module _ (n at : ℕ) (raw : List ℕ) where
 
   run_twice : (p : Parsed) → run_means p 0 (0 + n) raw ≡ first_pair → run_means p at (at + n) raw ≡ pair at
   unfolding run_means
-  run_twice (parsed.Is p) h = absurd (omega (arith, ap kind_in h))
-  run_twice parsed.NoNumber h = word_twice h
-  run_twice parsed.ZeroDenominator h = absurd (omega (arith, ap kind_in h))
+  run_twice (Ok p) h = absurd (omega (arith, ap kind_in h))
+  run_twice (Err parsed.NoNumber) h = word_twice h
+  run_twice (Err parsed.ZeroDenominator) h = absurd (omega (arith, ap kind_in h))
 
   means_twice : (o : Outcome) → meaning_of true o 0 (0 + n) raw ≡ first_pair → meaning_of true o at (at + n) raw ≡ pair at
   means_twice (Token k d) h = let z = ap text_in h in impossible cc

@@ -1,4 +1,6 @@
 -- The loops over the records: what was counted or laid so far, and what is still to be written.
+use Rattle.std.proofs.Common.{Option}
+use Rattle.items.specs.declared.Quotes.{Quotes}
 use Prim.Native.Nat.{ℕ, ◌+◌, ◌-◌, ◌*◌, ◌≤◌, ◌<◌}
 use mathlib.Core.Path.{◌≡◌, refl, sym, ap, ◌∙◌}
 use mathlib.Core.Bool.{Bool, true, false, not}
@@ -12,14 +14,13 @@ use Rattle.laws.proofs.Lent.{length-written, length_part, part_written}
 use Rattle.refusal.specs.Refusals as refusal
 use Rattle.items_writing.specs.declared.WriteWords.{WriteWords}
 use Rattle.items_writing.specs.declared.WriteTurn.{WriteTurn}
-use Rattle.items_writing.specs.declared.Form.{Form}
 use Rattle.items_writing.specs.Records.{count_of, words_at, is_right, entry_of}
 use Rattle.items_writing.specs.Pieces.{body_of, lone, shown, piece, entry_at, onward, TurnSaid, Measured}
 use Rattle.items_writing.proofs.RightRecords.{body_short}
 use Rattle.items_writing.proofs.QuotedBytes.{lone_few, shown_few}
 use Rattle.items_writing.proofs.PieceByPiece.{at_end_case}
 
-pub piece_few : (first pair : Bool) (f : Form) (t : List ℕ) → length (piece first pair f t) ≤ 2 * length t + 4
+pub piece_few : (first pair : Bool) (f : Option Quotes) (t : List ℕ) → length (piece first pair f t) ≤ 2 * length t + 4
 unfolding piece
 piece_few first pair f t =
     omega (

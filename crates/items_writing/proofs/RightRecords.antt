@@ -1,23 +1,22 @@
 -- What is known of records that are not refused, and how the records from a place on go.
+use Rattle.std.proofs.Common.{None, Option, Some, Result, Err}
 use Prim.Native.Nat.{ℕ, zero, suc, ◌+◌, ◌-◌, ◌≤◌, ◌<◌}
 use mathlib.Core.Path.{◌≡◌, refl}
-use mathlib.Core.Bool.{Bool, true, false, ◌&&◌}
+use mathlib.Core.Bool.{true, false, ◌&&◌}
 use mathlib.Core.List.{List, [], ◌∷◌}
 use lib.ListN.{length, drop, length-drop}
 use lib.Seq.{length-take-le}
 use lib.Dec.{eqb, leb}
 use native.Mathlib.Omega.{arith}
-use borrow.Author.Tests.{leb-true, le-leb, lt-leb, eq-eqb, ne_eqb, eqb-true, eqb-false, le-ltb, lt-ltb}
+use borrow.Author.Tests.{leb-true, eq-eqb, ne_eqb, eqb-true, eqb-false}
 use Rattle.laws.proofs.Choice.{by_bool, and_true, no_yes, impossible}
 use Rattle.chars.specs.Utf8.{first_bad, sequences}
-use Rattle.chars.specs.declared.Utf8.{Utf8}
-use Rattle.chars.specs.declared.Utf8.TheVariants.{Good, Bad}
 use Rattle.items.specs.Kinds as kind
 use Rattle.items_writing.specs.declared.WriteWords.{WriteWords}
-use Rattle.items_writing.specs.declared.Judged.{Judged}
-use Rattle.items_writing.specs.declared.Judged.TheVariants.{Fine, Alien, Unwritten}
+use Rattle.items_writing.specs.declared.WriteError.{WriteError}
+use Rattle.items_writing.specs.declared.WriteError.TheVariants.{Alien, Unwritten}
 use Rattle.items_writing.specs.Written.{part}
-use Rattle.items_writing.specs.Records.{count_of, words_at, records_from, rest, records_in, is_good, is_whole, is_kind, text_right, is_right, is_left, judge, text_of, entry_of}
+use Rattle.items_writing.specs.Records.{count_of, words_at, records_from, rest, records_in, is_good, is_whole, is_kind, text_right, is_right, is_left, fine, judge, text_of, entry_of}
 use Rattle.items_writing.specs.Pieces.{is_extent, body_of, AllRight}
 
 -- ---- a part that is whole characters
@@ -25,11 +24,11 @@ use Rattle.items_writing.specs.Pieces.{is_extent, body_of, AllRight}
 pub record Whole (s : List ℕ) (a b : ℕ) : Type 0 where
   pub forward : a ≤ b
   pub inside : b ≤ length s
-  pub good : first_bad (part a b s) ≡ Good
+  pub good : first_bad (part a b s) ≡ None
 
-good_is : (u : Utf8) → is_good u ≡ true → u ≡ Good
-good_is Good h = refl
-good_is (Bad p) h = no_yes h
+good_is : (u : Option ℕ) → is_good u ≡ true → u ≡ None
+good_is None h = refl
+good_is (Some p) h = no_yes h
 
 module _ (s : List ℕ) (a b : ℕ) where
   pub whole_is : is_whole s a b ≡ true → Whole s a b
@@ -39,18 +38,6 @@ module _ (s : List ℕ) (a b : ℕ) where
       (λ f. record { forward = leb-true a b e; inside = leb-true b (length s) f; good = good_is (first_bad (part a b s)) (rw (e, f) at h) })
       (λ f. no_yes (rw (e, f) at h)))
       (λ e. no_yes (rw e at h))
-
-  pub whole_back : b < a → false ≡ is_whole s a b
-  unfolding is_whole
-  whole_back h = rw (lt-leb a b h)
-
-  pub whole_past : a ≤ b → length s < b → false ≡ is_whole s a b
-  unfolding is_whole
-  whole_past h g = rw (le-leb a b h, lt-leb b (length s) g)
-
-  pub whole_told : a ≤ b → b ≤ length s → {r : Bool} → r ≡ is_good (first_bad (part a b s)) → r ≡ is_whole s a b
-  unfolding is_whole
-  whole_told h g e = rw (le-leb a b h, le-leb b (length s) g) e
 
 -- a text that is all of an extent is whole with it
 pub extent_right : (source text : List ℕ) (r : WriteWords) → is_extent r ≡ true → is_whole source r.start r.«end» ≡ true → text_right source text r ≡ true
@@ -62,29 +49,6 @@ extent_right source text r h w =
 
 pub part_length : (s : List ℕ) (a b : ℕ) → a ≤ b → b ≤ length s → length (part a b s) ≡ b - a
 part_length s a b h g = length-take-le (b - a) (drop a s) (omega (arith, length-drop a s))
-
--- ---- kinds
-
-module _ (k : ℕ) where
-  pub kind_low : k ≤ kind.Dot → true ≡ is_kind k
-  unfolding is_kind
-  kind_low h = rw (le-leb k kind.Dot h)
-
-  pub kind_between : kind.Dot < k → k ≤ kind.first_error → false ≡ is_kind k
-  unfolding is_kind
-  kind_between h g = rw (lt-leb k kind.Dot h, le-ltb kind.first_error k g)
-
-  pub kind_error : kind.Dot < k → kind.first_error < k → leb k (kind.first_error + kind.last_error) ≡ is_kind k
-  unfolding is_kind
-  kind_error h g = rw (lt-leb k kind.Dot h, lt-ltb kind.first_error k g)
-
-  pub left_error : kind.first_error < k → true ≡ is_left k
-  unfolding is_left
-  left_error h = rw (lt-ltb kind.first_error k h)
-
-  pub left_comment : k ≤ kind.first_error → eqb k kind.Comment ≡ is_left k
-  unfolding is_left
-  left_comment h = rw (le-ltb kind.first_error k h)
 
 -- ---- a record
 
@@ -111,11 +75,11 @@ module _ (source text : List ℕ) (r : WriteWords) where
   text_in_memory n e h = rw (ne_eqb r.origin 1 n, eq-eqb r.origin 2 e) at h
 
   -- its text is whole characters, and short
-  nothing_good : first_bad [] ≡ Good
+  nothing_good : first_bad [] ≡ None
   unfolding first_bad sequences
   nothing_good = refl
 
-  pub text_good : text_right source text r ≡ true → first_bad (text_of source text r) ≡ Good
+  pub text_good : text_right source text r ≡ true → first_bad (text_of source text r) ≡ None
   unfolding text_of
   text_good h = by_bool (eqb r.origin 1)
       (λ e. rw e (whole_is source r.first r.past (text_in_source (eqb-true r.origin 1 e) h)).good)
@@ -134,7 +98,7 @@ module _ (source text : List ℕ) (r : WriteWords) where
       (λ f. rw (e, f) (omega arith)))
 
   module _ (h : is_right source text r ≡ true) where
-    pub body_good : first_bad (body_of (entry_of source text r)) ≡ Good
+    pub body_good : first_bad (body_of (entry_of source text r)) ≡ None
     body_good = by_bool (eqb r.kind kind.Identifier)
         (λ e. rw e (text_good (right_is h).text_right_holds))
         (λ e. by_bool (eqb r.kind kind.StringLiteral)
@@ -162,15 +126,15 @@ module _ (s : List ℕ) (p : ℕ) where
 
 module _ (records source text : List ℕ) where
   -- what a judge says from a place on
-  abbrev pub judged : ℕ → Judged
+  abbrev pub judged : ℕ → Result (Unit {0}) WriteError
   judged p = judge source text p (rest records p)
 
   module _ (p : ℕ) (h : p < count_of records) where
-    pub judged_alien : false ≡ is_right source text (words_at records p) → judged p ≡ Alien p
+    pub judged_alien : false ≡ is_right source text (words_at records p) → judged p ≡ Err (Alien p)
     unfolding judge
     judged_alien e = rw (rest_cons records p h, ← e)
 
-    pub judged_left : true ≡ is_right source text (words_at records p) → true ≡ is_left (words_at records p).kind → judged p ≡ Unwritten p
+    pub judged_left : true ≡ is_right source text (words_at records p) → true ≡ is_left (words_at records p).kind → judged p ≡ Err (Unwritten p)
     unfolding judge
     judged_left e f = rw (rest_cons records p h, ← e, ← f)
 
@@ -178,12 +142,12 @@ module _ (records source text : List ℕ) where
     unfolding judge
     judged_on e f = rw (rest_cons records p h, ← e, ← f)
 
-  pub judged_end : (p : ℕ) → count_of records ≤ p → judged p ≡ Fine
+  pub judged_end : (p : ℕ) → count_of records ≤ p → judged p ≡ fine
   unfolding judge
   judged_end p h = rw (rest_end records p h)
 
   -- records that are fine are right
-  fine_right : (n : ℕ) (rs : List WriteWords) → judge source text n rs ≡ Fine → AllRight source text rs
+  fine_right : (n : ℕ) (rs : List WriteWords) → judge source text n rs ≡ fine → AllRight source text rs
   unfolding judge
   fine_right n [] h = tt
   fine_right n (r ∷ rs) h = by_bool (is_right source text r)
@@ -192,7 +156,7 @@ module _ (records source text : List ℕ) where
       (λ f. (e, fine_right (n + 1) rs (rw (e, f) at h))))
       (λ e. let z = rw e at h in impossible cc)
 
-  pub all_right : judged 0 ≡ Fine → AllRight source text (records_in records)
+  pub all_right : judged 0 ≡ fine → AllRight source text (records_in records)
   all_right h = fine_right 0 (records_in records) h
 
   right_from : (n a p : ℕ) → AllRight source text (records_from n a records) → a ≤ p → p < a + n → is_right source text (words_at records p) ≡ true

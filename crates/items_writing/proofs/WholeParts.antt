@@ -1,4 +1,5 @@
 -- A text whose characters were passed to its end is whole, and so is a part of whole characters between two places that lie in no character.
+use Rattle.std.proofs.Common.{None}
 use Prim.Native.Nat.{ℕ, ◌+◌, ◌-◌, ◌≤◌}
 use native.Mathlib.Omega.{arith}
 use mathlib.Core.Path.{◌≡◌, sym, ap, ◌∙◌}
@@ -13,13 +14,12 @@ use Rattle.laws.proofs.Choice.{by_bool, within_below}
 use Rattle.laws.proofs.Places.{drop-take, take_short}
 use Rattle.chars.specs.Utf8.{first_bad, sequences}
 use Rattle.chars.specs.Wide.{Passed}
-use Rattle.chars.specs.declared.Utf8.TheVariants.{Good}
 use Rattle.chars.proofs.Cuts.{good_cut}
 use Rattle.items_writing.specs.Written.{part}
 use Rattle.items_writing.specs.Records.{is_whole}
 use Rattle.items_writing.proofs.RightRecords.{Whole, whole_is}
 
-pub all_passed : (t : List ℕ) (r : ℕ) → length t ≤ r → Passed t 0 r → first_bad t ≡ Good
+pub all_passed : (t : List ℕ) (r : ℕ) → length t ≤ r → Passed t 0 r → first_bad t ≡ None
 unfolding first_bad sequences
 all_passed t r h p = sym (rw (drop_of_length-le t h) at p.1)
 
@@ -47,12 +47,12 @@ part-part s a f p l m =
     ∙ ap (λ (n : ℕ). take (p - f) (drop n s)) r
 
 module _ (s : List ℕ) (a b f p : ℕ) (l : a ≤ f) (m : f ≤ p) (h : p ≤ b) (e : Border s f) (g : Border s p) (k : Whole s a b) where
-  front_good : first_bad (part a p s) ≡ Good
+  front_good : first_bad (part a p s) ≡ None
   front_good =
       ap first_bad (sym (take-take (p - a) (b - a) (drop a s) (omega arith)))
       ∙ (good_cut (part a b s) k.good (p - a) (border s a b p (omega arith) g)).0
 
-  inside_good : first_bad (part f p s) ≡ Good
+  inside_good : first_bad (part f p s) ≡ None
   inside_good = ap first_bad (sym (part-part s a f p l m)) ∙ (good_cut (part a p s) front_good (f - a) (border s a p f l e)).1
 
   inside_is : is_whole s f p ≡ true

@@ -1,4 +1,5 @@
 -- What each branch of the test of a word says.
+use Rattle.std.proofs.Common.{None, Option, Some}
 use Prim.Native.Nat.{ℕ, ◌+◌, ◌-◌, ◌≤◌}
 use mathlib.Core.Path.{◌≡◌, refl, sym, ap, subst, ◌∙◌}
 use mathlib.Core.Bool.{Bool, true, false, ◌&&◌}
@@ -13,7 +14,6 @@ use borrow.Author.Tests.{eq-eqb, eqb-true}
 use Rattle.chars.specs.Blank.{is_blank}
 use Rattle.chars.specs.Encode.{utf8, width, bytes_of}
 use Rattle.chars.specs.Utf8.{chars, first_bad}
-use Rattle.chars.specs.declared.Utf8.TheVariants.{Good}
 use Rattle.chars.proofs.Chars.{CharAt}
 use Rattle.chars.proofs.Good.{good_bytes_lem, good_scalars}
 use Rattle.items.specs.declared.Outcome.{Outcome}
@@ -21,8 +21,6 @@ use Rattle.items.specs.declared.Phase.{Phase}
 use Rattle.items.specs.Classes.{first_of, First, semicolon, quote, comma, hash, number, single, vertical, backslash, wordy}
 use Rattle.items.specs.Machine.{on_first, depth_of}
 use Rattle.items.specs.Readers.{so_far, eat, first_is}
-use Rattle.items_writing.specs.declared.Stand.{Stand}
-use Rattle.items_writing.specs.declared.Stand.TheVariants.{Ends, Apart}
 use Rattle.items_writing.specs.Written.{bare}
 use Rattle.items_writing.specs.Decide.{stand_from, stands_as, is_name, decide}
 use Rattle.items_r7rs.proofs.Bytes.{bytes_ascii}
@@ -49,7 +47,7 @@ line_in c t h =
     let r : bytes_of (c ∷ t) ≡ code "#" ∷ bytes_of t = ap (λ (x : ℕ). bytes_of (x ∷ t)) e ∙ bytes_ascii (code "#") t refl in
     rw e (mark_there t (rw r at k.1))
 
-module _ (s : List ℕ) (good : first_bad s ≡ Good) (first last : Bool) where
+module _ (s : List ℕ) (good : first_bad s ≡ None) (first last : Bool) where
   by_chars : bare first last s ≡ decide first last (chars s)
   by_chars = subst (λ (x : List ℕ). bare first last x ≡ decide first last (chars s)) (good_bytes_lem s good) (bare_decided first last (chars s) (good_scalars s good))
 
@@ -81,7 +79,7 @@ module _ (s : List ℕ) (good : first_bad s ≡ Good) (first last : Bool) where
         sym (by_chars ∙ rw k.first (rw (b, g)))
 
     -- neither: the machine says
-    abbrev its_stand : Stand
+    abbrev its_stand : Option Outcome
     its_stand = stand_from last (on_first (first_of c)) (so_far (take next s) next) (chars (drop next s))
 
     starts_so : so_far (take next s) next ≡ eat (so_far [] 0) c
@@ -98,15 +96,15 @@ module _ (s : List ℕ) (good : first_bad s ≡ Good) (first last : Bool) where
         e ∙ sym (by_chars ∙ rw k.first (rw (b, g) (rw (← starts_so, spelled_so))))
 
     -- what the loop said, and the answer that goes with it
-    pub bare_ends : {p : Phase} {w : Stand} {o : Outcome} {r : Bool} → is_blank c ≡ false → (first && begins (codes "#!") s) ≡ false
-        → p ≡ on_first (first_of c) → w ≡ stand_from last p (so_far (take next s) next) (chars (drop next s)) → w ≡ Ends o → r ≡ is_name o s → r ≡ bare first last s
+    pub bare_ends : {p : Phase} {w : Option Outcome} {o : Outcome} {r : Bool} → is_blank c ≡ false → (first && begins (codes "#!") s) ≡ false
+        → p ≡ on_first (first_of c) → w ≡ stand_from last p (so_far (take next s) next) (chars (drop next s)) → w ≡ Some o → r ≡ is_name o s → r ≡ bare first last s
     bare_ends {p} {w} {o} {r} b f q e g h =
-        bare_stands b f (h ∙ (ap (λ (x : Stand). stands_as x s)
+        bare_stands b f (h ∙ (ap (λ (x : Option Outcome). stands_as x s)
         (sym g ∙ (e ∙ ap (λ (x : Phase). stand_from last x (so_far (take next s) next) (chars (drop next s))) q))))
 
-    pub bare_apart : {p : Phase} {w : Stand} → is_blank c ≡ false → (first && begins (codes "#!") s) ≡ false
-        → p ≡ on_first (first_of c) → w ≡ stand_from last p (so_far (take next s) next) (chars (drop next s)) → w ≡ Apart → false ≡ bare first last s
-    bare_apart {p} {w} b f q e g = bare_stands b f (ap (λ (x : Stand). stands_as x s) (sym g ∙ (e ∙ ap (λ (x : Phase). stand_from last x (so_far (take next s) next) (chars (drop next s))) q)))
+    pub bare_apart : {p : Phase} {w : Option Outcome} → is_blank c ≡ false → (first && begins (codes "#!") s) ≡ false
+        → p ≡ on_first (first_of c) → w ≡ stand_from last p (so_far (take next s) next) (chars (drop next s)) → w ≡ None → false ≡ bare first last s
+    bare_apart {p} {w} b f q e g = bare_stands b f (ap (λ (x : Option Outcome). stands_as x s) (sym g ∙ (e ∙ ap (λ (x : Phase). stand_from last x (so_far (take next s) next) (chars (drop next s))) q)))
 
 -- an item's first phase is in no nested comment
 pub first_flat : (c : ℕ) (n : ℕ) {p : Phase} → p ≡ on_first (first_of c) → depth_of p ≤ n

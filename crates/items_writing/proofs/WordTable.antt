@@ -1,4 +1,5 @@
 -- The words that have a kind of their own: none of them is a number, and none begins with `#!`.
+use Rattle.std.proofs.Common.{Err}
 use Prim.Native.Nat.{ℕ}
 use mathlib.Core.Path.{◌≡◌, refl, sym, subst, ◌∙◌}
 use mathlib.Core.Bool.{true, false}
@@ -14,7 +15,7 @@ use Rattle.digits.specs.Digits.{digit_of, sign, uinteger, value, fit, signed, wh
 use Rattle.numbers.specs.Grammar.{just_of, complex_of, polar_of, ends_i, imaginary, alone_of, pair_of, to_sign, starts_e}
 use Rattle.numbers.specs.Grammar.{rectangular, complex, zero_int, zero_real, zero_parts, judged, radix_mark, prefix, parse_number}
 use Rattle.numbers.specs.Reals.{exponent_marker, exponent, suffix, point_of, dotted, undotted, decimal, infnan, integral_of, rational_of, denominator, exact, or_else, ureal, real}
-use Rattle.numbers.specs.declared.Parsed.TheVariants.{NoNumber}
+use Rattle.numbers.specs.declared.ParseError.TheVariants.{NoNumber}
 use Rattle.items.specs.Meaning.{Row, lookup, words, word_kind}
 use Rattle.items.specs.Kinds as kind
 use Rattle.items.proofs.Every.{Every}
@@ -28,7 +29,7 @@ lookup_row P (r ∷ rs) raw n h e = by_bool (same raw r.text)
     (λ f. subst P (sym (same_is raw r.text f)) h.0)
     (λ f. lookup_row P rs raw n h.1 (rw f at e))
 
-rows_numbers : Every (λ (r : Row). parse_number r.text ≡ NoNumber) words
+rows_numbers : Every (λ (r : Row). parse_number r.text ≡ Err NoNumber) words
 unfolding words span starts begins same utf8 bytes_of within digit_of sign uinteger value fit signed whole_of integer exponent_marker exponent suffix point_of dotted
     undotted decimal infnan integral_of rational_of denominator exact or_else ureal real just_of complex_of polar_of ends_i imaginary alone_of pair_of to_sign starts_e rectangular
     complex zero_int zero_real zero_parts judged radix_mark prefix parse_number
@@ -38,9 +39,9 @@ rows_lines : Every (λ (r : Row). begins (codes "#!") r.text ≡ false) words
 unfolding words begins bytes_of utf8
 rows_lines = (refl, (refl, (refl, (refl, (refl, (refl, (refl, (refl, (refl, (refl, (refl, (refl, (refl, (refl, (refl, (refl, (refl, (refl, (refl, tt)))))))))))))))))))
 
-pub word_number : (raw : List ℕ) → eqb (word_kind raw) kind.Identifier ≡ false → parse_number raw ≡ NoNumber
+pub word_number : (raw : List ℕ) → eqb (word_kind raw) kind.Identifier ≡ false → parse_number raw ≡ Err NoNumber
 unfolding word_kind
-word_number raw e = lookup_row (λ (l : List ℕ). parse_number l ≡ NoNumber) words raw kind.Identifier rows_numbers e
+word_number raw e = lookup_row (λ (l : List ℕ). parse_number l ≡ Err NoNumber) words raw kind.Identifier rows_numbers e
 
 word_line : (raw : List ℕ) → eqb (word_kind raw) kind.Identifier ≡ false → begins (codes "#!") raw ≡ false
 unfolding word_kind

@@ -1,4 +1,5 @@
 -- One turn of the loop over a word.
+use Rattle.std.proofs.Common.{None, Option, Some, Ok, Err}
 use Prim.Native.Nat.{ℕ, zero, suc, ◌+◌, ◌-◌, ◌≤◌, ◌<◌}
 use mathlib.Core.Path.{◌≡◌, refl, sym, ap, ◌∙◌}
 use mathlib.Core.Bool.{Bool, true, false, not, ◌&&◌}
@@ -23,9 +24,8 @@ use Rattle.items.specs.declared.Outcome.{Outcome}
 use Rattle.items.specs.declared.Phase.{Phase}
 use Rattle.items.specs.declared.Next.TheVariants.{Eat, Stop}
 use Rattle.numbers.specs.declared.Parts.{Parts}
-use Rattle.numbers.specs.declared.Parsed.{Parsed}
-use Rattle.numbers.specs.declared.Parsed.TheVariants as parsed
-use Rattle.numbers.specs.Grammar.{parse_number}
+use Rattle.numbers.specs.declared.ParseError.TheVariants as parsed
+use Rattle.numbers.specs.Grammar.{parse_number, Parsed}
 use Rattle.items.specs.declared.Outcome.TheVariants.{Token, Str, HereStr, Word, Run, Lined, Keyword, Character, Error, ErrorAt}
 use Rattle.items.specs.declared.Phase.TheVariants as ph
 use Rattle.items.specs.Classes.{in_word, breaks_word, in_run, stays_run, ends_run}
@@ -38,28 +38,26 @@ use Rattle.items.proofs.Deep.{deep_eat}
 use Rattle.items.specs.contracts.Outcome.{the_type}
 use Rattle.steps.specs.Runs.{keeps}
 use Rattle.steps.proofs.Kept.{kept_ascii, kept_stays, ascii_found}
-use Rattle.items_writing.specs.declared.Stand.{Stand}
-use Rattle.items_writing.specs.declared.Stand.TheVariants.{Ends, Apart}
 use Rattle.items_writing.specs.Decide.{close_of, stand_from, name_word, is_name, is_pair_of}
 
 -- ---- the end of the word
 
-pub close_last : (last : Bool) (p : Phase) (raw : List ℕ) (n : ℕ) {o : Outcome} → last ≡ true → o ≡ finish_of p raw → Ends o ≡ close_of last p (so_far raw n)
+pub close_last : (last : Bool) (p : Phase) (raw : List ℕ) (n : ℕ) {o : Outcome} → last ≡ true → o ≡ finish_of p raw → Some o ≡ close_of last p (so_far raw n)
 close_last last p raw n e f = rw (e, f)
 
-pub close_eat : (last : Bool) (p q : Phase) (raw : List ℕ) (n : ℕ) → last ≡ false → step_of true p (so_far raw n) (code " ") ≡ Eat q → Apart ≡ close_of last p (so_far raw n)
+pub close_eat : (last : Bool) (p q : Phase) (raw : List ℕ) (n : ℕ) → last ≡ false → step_of true p (so_far raw n) (code " ") ≡ Eat q → None ≡ close_of last p (so_far raw n)
 close_eat last p q raw n e f = rw (e, f)
 
-pub close_stop : (last : Bool) (p : Phase) (raw : List ℕ) (n : ℕ) (o : Outcome) → last ≡ false → step_of true p (so_far raw n) (code " ") ≡ Stop o → Ends o ≡ close_of last p (so_far raw n)
+pub close_stop : (last : Bool) (p : Phase) (raw : List ℕ) (n : ℕ) (o : Outcome) → last ≡ false → step_of true p (so_far raw n) (code " ") ≡ Stop o → Some o ≡ close_of last p (so_far raw n)
 close_stop last p raw n o e f = rw (e, f)
 
 -- a word, and a run, end in both ways alike
-pub word_closes : (last : Bool) (p : Phase) (i : SoFar) → p ≡ ph.InWord → Ends Word ≡ close_of last p i
+pub word_closes : (last : Bool) (p : Phase) (i : SoFar) → p ≡ ph.InWord → Some Word ≡ close_of last p i
 unfolding in_word breaks_word is_blank
 word_closes true p i e = rw e
 word_closes false p i e = rw e
 
-pub run_closes : (last : Bool) (p : Phase) (i : SoFar) → p ≡ ph.InRun → Ends Run ≡ close_of last p i
+pub run_closes : (last : Bool) (p : Phase) (i : SoFar) → p ≡ ph.InRun → Some Run ≡ close_of last p i
 unfolding in_run stays_run ends_run is_blank
 run_closes true p i e = rw e
 run_closes false p i e = rw e
@@ -67,7 +65,7 @@ run_closes false p i e = rw e
 -- ---- the word from a place on
 
 module _ (t : List ℕ) (last : Bool) where
-  abbrev pub onward : Phase → ℕ → Stand
+  abbrev pub onward : Phase → ℕ → Option Outcome
   onward p at = stand_from last p (so_far (take at t) at) (chars (drop at t))
 
   module _ (p : Phase) (at c next : ℕ) (k : CharAt t at c next) where
@@ -80,7 +78,7 @@ module _ (t : List ℕ) (last : Bool) where
     unfolding stand_from
     go_eat q e = rw k.first (rw (e, stand_from) (rw (← front_more, ← k.on)))
 
-    pub go_stop : (o : Outcome) → step_of true p (so_far (take at t) at) c ≡ Stop o → onward p at ≡ Apart
+    pub go_stop : (o : Outcome) → step_of true p (so_far (take at t) at) c ≡ Stop o → onward p at ≡ None
     unfolding stand_from
     go_stop o e = rw k.first (rw (e, stand_from))
 
@@ -150,15 +148,15 @@ module _ (raw : List ℕ) {k : ℕ} (q : k ≡ word_kind raw) where
       not_and_true false = refl
 
 -- by outcome
-pub name_number : (raw : List ℕ) {p : Parsed} (parts : Parts) → p ≡ parse_number raw → p ≡ parsed.Is parts → false ≡ is_name Run raw
+pub name_number : (raw : List ℕ) {p : Parsed} (parts : Parts) → p ≡ parse_number raw → p ≡ Ok parts → false ≡ is_name Run raw
 unfolding is_name
 name_number raw parts e f = rw (← e, f)
 
-pub name_none : (raw : List ℕ) {p : Parsed} {r : Bool} → p ≡ parse_number raw → p ≡ parsed.NoNumber → r ≡ name_word raw → r ≡ is_name Run raw
+pub name_none : (raw : List ℕ) {p : Parsed} {r : Bool} → p ≡ parse_number raw → p ≡ Err parsed.NoNumber → r ≡ name_word raw → r ≡ is_name Run raw
 unfolding is_name
 name_none raw e f g = rw (← e, f) g
 
-pub name_zero : (raw : List ℕ) {p : Parsed} → p ≡ parse_number raw → p ≡ parsed.ZeroDenominator → false ≡ is_name Run raw
+pub name_zero : (raw : List ℕ) {p : Parsed} → p ≡ parse_number raw → p ≡ Err parsed.ZeroDenominator → false ≡ is_name Run raw
 unfolding is_name
 name_zero raw e f = rw (← e, f)
 

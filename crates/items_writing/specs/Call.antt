@@ -1,13 +1,11 @@
 -- The call, all of it: what it answers and what the lent memory holds afterwards. 02 (viii), "Refusals": "at the first record
 -- concerned, 48 .., else 47 ..; then 20 if the result would pass that limit; 22 last, with the bytes needed; nothing written".
-use Rattle.std.specs.Prelude.{ℕ, true, List, length, ltb, if◌then◌else◌}
+use Rattle.std.specs.Prelude.{ℕ, true, List, length, ltb, if◌then◌else◌, Result, Ok, Err}
 use Rattle.laws.specs.Lent as lent
 use Rattle.refusal.specs.Refusals as refusal
 use Rattle.items_writing.specs.declared.WriteWords.{WriteWords}
-use Rattle.items_writing.specs.declared.Judged.{Judged}
-use Rattle.items_writing.specs.declared.Judged.TheVariants.{Fine, Alien, Unwritten}
-use Rattle.items_writing.specs.declared.WriteAnswer.{WriteAnswer}
-use Rattle.items_writing.specs.declared.WriteAnswer.TheVariants as answer
+use Rattle.items_writing.specs.declared.WriteError.{WriteError}
+use Rattle.items_writing.specs.declared.WriteError.TheVariants as error
 use Rattle.items_writing.specs.Written.{written}
 use Rattle.items_writing.specs.Records.{records_in, judge, entries_of}
 
@@ -30,10 +28,16 @@ deliver most w out =
     else if ltb (length out) (length w) then call (refused refusal.too_few (length w)) out
     else call (served (length w)) (lent.written w out)
 
-abbrev pub if_fine : Judged → Call → List ℕ → Call
-if_fine Fine c out = c
-if_fine (Alien p) c out = call (refused refusal.alien p) out
-if_fine (Unwritten p) c out = call (refused refusal.unwritten p) out
+-- the code's refusals, by their numbers
+abbrev pub refused_by : WriteError → Answer
+refused_by (error.Alien p) = refused refusal.alien p
+refused_by (error.Unwritten p) = refused refusal.unwritten p
+refused_by error.TooLong = refused refusal.over_long refusal.limit
+refused_by (error.NoRoom n) = refused refusal.too_few n
+
+abbrev pub if_fine : Result (Unit {0}) WriteError → Call → List ℕ → Call
+if_fine (Ok u) c out = c
+if_fine (Err e) c out = call (refused_by e) out
 
 -- with a limit of one's own
 unfoldable pub write_within : ℕ → List ℕ → List ℕ → List ℕ → List ℕ → Call
@@ -44,10 +48,7 @@ write_within most words source text out =
 abbrev pub write_of : List ℕ → List ℕ → List ℕ → List ℕ → Call
 write_of words source text out = write_within refusal.limit words source text out
 
--- the code's answer, by its numbers
-abbrev pub answered : WriteAnswer → Answer
-answered (answer.Written n) = served n
-answered (answer.Alien p) = refused refusal.alien p
-answered (answer.Unwritten p) = refused refusal.unwritten p
-answered answer.TooLong = refused refusal.over_long refusal.limit
-answered (answer.NoRoom n) = refused refusal.too_few n
+-- the code's answer
+abbrev pub answered : Result ℕ WriteError → Answer
+answered (Ok n) = served n
+answered (Err e) = refused_by e

@@ -1,13 +1,12 @@
 -- How the code decides whether a word reads back bare: the machine over the word, and one step more. A means of proof: no public contract
 -- cites it.
-use Rattle.std.specs.Prelude.{ℕ, Bool, true, false, not, ◌&&◌, List, [], ◌∷◌, length, eqb, ltb, if◌then◌else◌}
+use Rattle.std.specs.Prelude.{ℕ, Bool, true, false, not, ◌&&◌, List, [], ◌∷◌, length, eqb, ltb, if◌then◌else◌, None, Option, Some, Ok, Err}
 use Rattle.laws.specs.Quoted.{code, codes}
 use Rattle.laws.specs.Texts.{begins}
 use Rattle.chars.specs.Blank.{is_blank}
 use Rattle.chars.specs.Encode.{bytes_of}
-use Rattle.numbers.specs.declared.Parsed.{Parsed}
-use Rattle.numbers.specs.declared.Parsed.TheVariants as parsed
-use Rattle.numbers.specs.Grammar.{parse_number, numeric}
+use Rattle.numbers.specs.declared.ParseError.TheVariants as parsed
+use Rattle.numbers.specs.Grammar.{parse_number, numeric, Parsed}
 use Rattle.items.specs.declared.Outcome.{Outcome}
 use Rattle.items.specs.declared.Outcome.TheVariants.{Token, Str, HereStr, Word, Run, Lined, Keyword, Character, Error, ErrorAt}
 use Rattle.items.specs.declared.Phase.{Phase}
@@ -18,32 +17,30 @@ use Rattle.items.specs.Machine.{step_of, finish_of, on_first}
 use Rattle.items.specs.Readers.{SoFar, so_far, eat, first_is}
 use Rattle.items.specs.Meaning.{word_kind}
 use Rattle.items.specs.Kinds as kind
-use Rattle.items_writing.specs.declared.Stand.{Stand}
-use Rattle.items_writing.specs.declared.Stand.TheVariants.{Ends, Apart}
 
 -- a space that ends the item, or does not
-abbrev pub at_space : Next → Stand
-at_space (Eat q) = Apart
-at_space (Stop o) = Ends o
+abbrev pub at_space : Next → Option Outcome
+at_space (Eat q) = None
+at_space (Stop o) = Some o
 
 -- the end of a word: of the text, or before a space
-abbrev pub close_of : Bool → Phase → SoFar → Stand
-close_of true p i = Ends (finish_of p i.bytes)
+abbrev pub close_of : Bool → Phase → SoFar → Option Outcome
+close_of true p i = Some (finish_of p i.bytes)
 close_of false p i = at_space (step_of true p i (code " "))
 
 -- the machine over a word, from a phase on
-unfoldable pub stand_from : Bool → Phase → SoFar → List ℕ → Stand
+unfoldable pub stand_from : Bool → Phase → SoFar → List ℕ → Option Outcome
 stand_from last p i [] = close_of last p i
-stand_from last p i (c ∷ cs) = elim (step_of true p i c) [ Eat q ↦ stand_from last q (eat i c) cs | Stop o ↦ Apart ]
+stand_from last p i (c ∷ cs) = elim (step_of true p i c) [ Eat q ↦ stand_from last q (eat i c) cs | Stop o ↦ None ]
 
 -- one identifier, which is its own text
 abbrev pub name_word : List ℕ → Bool
 name_word raw = eqb (word_kind raw) kind.Identifier && not (first_is (code "+") raw && ltb 1 (length raw))
 
 abbrev pub name_run : Parsed → List ℕ → Bool
-name_run (parsed.Is p) raw = false
-name_run parsed.NoNumber raw = name_word raw
-name_run parsed.ZeroDenominator raw = false
+name_run (Ok p) raw = false
+name_run (Err parsed.NoNumber) raw = name_word raw
+name_run (Err parsed.ZeroDenominator) raw = false
 
 unfoldable pub is_name : Outcome → List ℕ → Bool
 is_name (Token k d) raw = false
@@ -57,9 +54,9 @@ is_name Character raw = false
 is_name (Error n d) raw = false
 is_name (ErrorAt n d a b) raw = false
 
-abbrev pub stands_as : Stand → List ℕ → Bool
-stands_as (Ends o) raw = is_name o raw
-stands_as Apart raw = false
+abbrev pub stands_as : Option Outcome → List ℕ → Bool
+stands_as (Some o) raw = is_name o raw
+stands_as None raw = false
 
 -- by characters
 unfoldable pub decide : Bool → Bool → List ℕ → Bool
@@ -85,9 +82,9 @@ is_pair_of Character t = false
 is_pair_of (Error n d) t = false
 is_pair_of (ErrorAt n d a b) t = false
 
-abbrev pub pairs_as : Stand → List ℕ → Bool
-pairs_as (Ends o) t = is_pair_of o t
-pairs_as Apart t = false
+abbrev pub pairs_as : Option Outcome → List ℕ → Bool
+pairs_as (Some o) t = is_pair_of o t
+pairs_as None t = false
 
 unfoldable pub is_lined : Outcome → Bool
 is_lined (Token k d) = false
@@ -101,6 +98,6 @@ is_lined Character = false
 is_lined (Error n d) = false
 is_lined (ErrorAt n d a b) = false
 
-abbrev pub lines_as : Stand → Bool
-lines_as (Ends o) = is_lined o
-lines_as Apart = false
+abbrev pub lines_as : Option Outcome → Bool
+lines_as (Some o) = is_lined o
+lines_as None = false

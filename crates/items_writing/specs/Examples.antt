@@ -1,6 +1,6 @@
 -- Worked examples: what is lent, what the call answers and leaves in the memory, how what it wrote reads back, and that writing this again
 -- gives the same text. One table, one statement, proved by computation. 20 is shown with a limit of 5 bytes.
-use Rattle.std.specs.Prelude.{ℕ, ◌+◌, ◌≡◌, refl, Bool, true, false, List, [], ◌∷◌, ◌++◌, map, length, take, replicate}
+use Rattle.std.specs.Prelude.{ℕ, ◌+◌, ◌≡◌, refl, Bool, true, false, List, [], ◌∷◌, ◌++◌, map, length, take, replicate, Err}
 use Prim.Native.String.{String}
 use Rattle.laws.specs.Quoted.{within}
 use Rattle.laws.specs.Texts.{span, starts, begins, same}
@@ -13,7 +13,7 @@ use Rattle.digits.specs.Hex.{hex_digits, hex_after_plus, hex_value}
 use Rattle.numbers.specs.Reals.{exponent_marker, exponent, suffix, point_of, dotted, undotted, decimal, infnan, integral_of, rational_of, denominator, exact, or_else, ureal, real}
 use Rattle.numbers.specs.Grammar.{just_of, complex_of, polar_of, ends_i, imaginary, alone_of, pair_of, to_sign, starts_e, rectangular, complex}
 use Rattle.numbers.specs.Grammar.{zero_int, zero_real, zero_parts, judged, radix_mark, prefix, parse_number}
-use Rattle.numbers.specs.declared.Parsed.TheVariants.{NoNumber}
+use Rattle.numbers.specs.declared.ParseError.TheVariants.{NoNumber}
 use Rattle.items.specs.Kinds as kind
 use Rattle.items_r7rs.specs.Reading.{bytes}
 use Rattle.items.specs.Classes.{starts_run, first_of, in_quotes, after_backslash, stops_hex, in_hex, in_trim, in_nest, breaks_word, in_word, stays_run, ends_run, in_run, after_hash, ends_hash, in_hash, in_delim}
@@ -93,7 +93,7 @@ abbrev edited : List ℕ → Lent
 edited rs = over "é" "a b" rs
 
 abbrev name : String → Shape
-name s = shape kind.Identifier 0 (bytes (spelled s)) NoNumber
+name s = shape kind.Identifier 0 (bytes (spelled s)) (Err NoNumber)
 
 -- what is written for such records, and the names that it reads back as
 abbrev writes : Lent → String → List Shape → Example

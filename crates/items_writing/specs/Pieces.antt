@@ -1,12 +1,11 @@
 -- How the code writes: a piece for each turn, of one item or of a pair. A means of proof: no public contract cites it.
-use Rattle.std.specs.Prelude.{ℕ, ◌+◌, ◌≤◌, ◌<◌, ◌≡◌, Bool, true, false, not, ◌&&◌, ◌||◌, List, [], ◌∷◌, ◌++◌, length, eqb, if◌then◌else◌}
+use Rattle.items.specs.declared.Quotes.{Quotes}
+use Rattle.std.specs.Prelude.{ℕ, ◌+◌, ◌≤◌, ◌<◌, ◌≡◌, Bool, true, false, not, ◌&&◌, ◌||◌, List, [], ◌∷◌, ◌++◌, length, eqb, if◌then◌else◌, None, Option, Some}
 use Rattle.laws.specs.Quoted.{code}
 use Rattle.refusal.specs.Refusals as refusal
 use Rattle.items.specs.declared.Quotes.TheVariants.{Double, Lines}
 use Rattle.items.specs.Kinds as kind
 use Rattle.items_writing.specs.declared.WriteWords.{WriteWords}
-use Rattle.items_writing.specs.declared.Form.{Form}
-use Rattle.items_writing.specs.declared.Form.TheVariants.{AsIs, Within}
 use Rattle.items_writing.specs.declared.WriteTurn.{WriteTurn}
 use Rattle.items_writing.specs.Written.{Entry, quoted, bare, written}
 use Rattle.items_writing.specs.Records.{count_of, words_at, rest, is_right, entry_of, entries_of}
@@ -19,22 +18,22 @@ is_extent r = eqb r.origin 1 && (eqb r.first r.start && eqb r.past r.«end»)
 abbrev pub body_of : Entry → List ℕ
 body_of e = if eqb e.kind kind.Identifier then e.text else if eqb e.kind kind.StringLiteral then e.text else e.raw
 
-unfoldable pub form_for : ℕ → Bool → Bool → List ℕ → Form
+unfoldable pub form_for : ℕ → Bool → Bool → List ℕ → Option Quotes
 form_for k first last t =
-    if eqb k kind.Identifier then (if bare first last t then AsIs else Within Lines)
-    else if eqb k kind.StringLiteral then Within Double
-    else AsIs
+    if eqb k kind.Identifier then (if bare first last t then None else Some Lines)
+    else if eqb k kind.StringLiteral then Some Double
+    else None
 
-abbrev pub shown : Form → List ℕ → List ℕ
-shown AsIs t = t
-shown (Within k) t = quoted k t
+abbrev pub shown : Option Quotes → List ℕ → List ℕ
+shown None t = t
+shown (Some k) t = quoted k t
 
 -- a byte that is there or not: the space before a piece, the plus of a pair
 abbrev pub lone : Bool → ℕ → List ℕ
 lone true b = b ∷ []
 lone false b = []
 
-unfoldable pub piece : Bool → Bool → Form → List ℕ → List ℕ
+unfoldable pub piece : Bool → Bool → Option Quotes → List ℕ → List ℕ
 piece first pair f t = lone (not first) (code " ") ++ (lone pair (code "+") ++ shown f t)
 
 -- ---- bytes in quotes; `mark` is what closes them

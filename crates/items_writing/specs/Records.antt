@@ -1,14 +1,12 @@
 -- What is lent: records, of which the call looks at six words, the source and the text memory. 02 (viii), "Refusals": which records
 -- are refused.
-use Rattle.std.specs.Prelude.{ℕ, zero, suc, ◌+◌, ◌-◌, ◌*◌, ◌/◌, Bool, true, false, ◌&&◌, ◌||◌, List, [], ◌∷◌, length, get_or, eqb, leb, ltb, if◌then◌else◌}
+use Rattle.std.specs.Prelude.{ℕ, zero, suc, ◌+◌, ◌-◌, ◌*◌, ◌/◌, Bool, true, false, ◌&&◌, ◌||◌, List, [], ◌∷◌, length, get_or, eqb, leb, ltb, if◌then◌else◌, None, Option, Some, Result, Ok, Err}
 use Rattle.chars.specs.Utf8.{first_bad}
-use Rattle.chars.specs.declared.Utf8.{Utf8}
-use Rattle.chars.specs.declared.Utf8.TheVariants.{Good, Bad}
 use Rattle.items.specs.Kinds as kind
 use Rattle.items.specs.Items.{record_words}
 use Rattle.items_writing.specs.declared.WriteWords.{WriteWords}
-use Rattle.items_writing.specs.declared.Judged.{Judged}
-use Rattle.items_writing.specs.declared.Judged.TheVariants.{Fine, Alien, Unwritten}
+use Rattle.items_writing.specs.declared.WriteError.{WriteError}
+use Rattle.items_writing.specs.declared.WriteError.TheVariants.{Alien, Unwritten}
 use Rattle.items_writing.specs.Written.{Entry, part}
 
 -- ---- the records of some words
@@ -41,9 +39,9 @@ records_in s = rest s 0
 
 -- ---- 48: "if its kind isn't 01's or its extent or text isn't whole characters of what is lent"
 
-abbrev pub is_good : Utf8 → Bool
-is_good Good = true
-is_good (Bad p) = false
+abbrev pub is_good : Option ℕ → Bool
+is_good None = true
+is_good (Some p) = false
 
 -- whether the part of s from a to b is there and is whole characters; an empty part is
 unfoldable pub is_whole : List ℕ → ℕ → ℕ → Bool
@@ -76,11 +74,15 @@ is_left k = ltb kind.first_error k || eqb k kind.Comment
 
 -- ---- "at the first record concerned, 48 .., else 47": p is the place of the first of these
 
-unfoldable pub judge : List ℕ → List ℕ → ℕ → List WriteWords → Judged
-judge source text p [] = Fine
+-- none is refused
+abbrev pub fine : Result (Unit {0}) WriteError
+fine = Ok tt
+
+unfoldable pub judge : List ℕ → List ℕ → ℕ → List WriteWords → Result (Unit {0}) WriteError
+judge source text p [] = fine
 judge source text p (r ∷ rs) =
     let more = judge source text (p + 1) rs in
-    if is_right source text r then (if is_left r.kind then Unwritten p else more) else Alien p
+    if is_right source text r then (if is_left r.kind then Err (Unwritten p) else more) else Err (Alien p)
 
 -- ---- the entries
 

@@ -1,8 +1,7 @@
 -- What the round trip keeps: "the same kinds, details, texts and number parts".
-use Rattle.std.specs.Prelude.{ℕ, Bool, true, false, not, ◌&&◌, List, [], ◌∷◌, eqb, ltb, if◌then◌else◌}
-use Rattle.numbers.specs.declared.Parsed.{Parsed}
-use Rattle.numbers.specs.declared.Parsed.TheVariants.{NoNumber}
-use Rattle.numbers.specs.Grammar.{parse_number}
+use Rattle.std.specs.Prelude.{ℕ, Bool, true, false, not, ◌&&◌, List, [], ◌∷◌, eqb, ltb, if◌then◌else◌, Err}
+use Rattle.numbers.specs.declared.ParseError.TheVariants.{NoNumber}
+use Rattle.numbers.specs.Grammar.{parse_number, Parsed}
 use Rattle.items.specs.Kinds as kind
 use Rattle.items.specs.Meaning.{Text, none, source, decoded}
 use Rattle.items.specs.Items.{Item, depth_after}
@@ -26,7 +25,7 @@ spells s (decoded bs) = bytes bs
 
 -- the parts of a number of these bytes; any other item has none
 unfoldable pub number_of : ℕ → List ℕ → Parsed
-number_of k raw = if eqb k kind.Number then parse_number raw else NoNumber
+number_of k raw = if eqb k kind.Number then parse_number raw else (Err NoNumber)
 
 -- the items of a text s
 abbrev pub shape_of : List ℕ → Item → Shape

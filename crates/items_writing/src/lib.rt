@@ -35,47 +35,17 @@ pub struct WriteWords {
     pub past: u32,
 }
 
-// Whether records are refused.
+// What the call refuses: specs/Call gives the number and what comes with it for each case.
 #[derive(Clone, Copy)]
-pub enum Judged {
-    Fine,
-    // the first record concerned has a kind that 01 does not have, or its extent or text is not whole characters of what is lent: 48
+pub enum WriteError {
+    // 48, with the first record concerned: its kind is none that 01 has, or its extent or text is not whole characters of what is lent
     Alien(usize),
-    // it is an error or a comment: 47
-    Unwritten(usize),
-}
-
-// What the call answers.
-#[derive(Clone, Copy)]
-pub enum WriteAnswer {
-    // this many bytes were written
-    Written(usize),
-    // 48, with the record
-    Alien(usize),
-    // 47, with the record
+    // 47, with the first record concerned: it is an error or a comment
     Unwritten(usize),
     // 20
     TooLong,
     // 22, with the bytes needed
     NoRoom(usize),
-}
-
-// Whether a text is one extent where it will stand.
-#[derive(Clone, Copy)]
-pub enum Stand {
-    // all of it, and what it turned out to be: foo
-    Ends(Outcome),
-    // less than it, or more: a b
-    Apart,
-}
-
-// How the bytes of a word are written.
-#[derive(Clone, Copy)]
-pub enum Form {
-    // foo
-    AsIs,
-    // |a b|, "a b"
-    Within(Quotes),
 }
 
 // What is written next.
@@ -85,7 +55,7 @@ pub struct WriteTurn {
     pub last: usize,
     // whether the one before is the plus of a pair
     pub pair: bool,
-    pub form: Form,
+    pub form: Option<Quotes>,
 }
 
 // How many bytes the result has, as far as the limit.
@@ -136,23 +106,23 @@ fn put<'a>(records: &[u32], source: &'a [u8], text: &'a [u8], out: &mut [u8])
     }
 }
 
-// The call: the text of these records, from the memory's start on. `text` is the text memory that they name.
-pub fn write<'a>(records: &[u32], source: &'a [u8], text: &'a [u8], out: &mut [u8]) -> WriteAnswer
+// The call: the text of these records, from the memory's start on, and how many bytes it has. `text` is the text memory that they name.
+pub fn write<'a>(
+    records: &[u32],
+    source: &'a [u8],
+    text: &'a [u8],
+    out: &mut [u8],
+) -> Result<usize, WriteError>
     ensures { call (answered result) out.new ≡ write_of records.now source.now text.now out.old }
 {
-    match records::judge(records, source, text) {
-        Judged::Fine => {
-            let n = measure(records, source, text);
-            if LIMIT < n {
-                return WriteAnswer::TooLong;
-            }
-            if out.len() < n {
-                return WriteAnswer::NoRoom(n);
-            }
-            put(records, source, text, out);
-            WriteAnswer::Written(n)
-        }
-        Judged::Alien(p) => WriteAnswer::Alien(p),
-        Judged::Unwritten(p) => WriteAnswer::Unwritten(p),
+    records::judge(records, source, text)?;
+    let n = measure(records, source, text);
+    if LIMIT < n {
+        return Err(WriteError::TooLong);
     }
+    if out.len() < n {
+        return Err(WriteError::NoRoom(n));
+    }
+    put(records, source, text, out);
+    Ok(n)
 }

@@ -6,7 +6,6 @@ ghost use Rattle.refusal.specs.Refusals as refusal;
 ghost use Rattle.items.specs.Classes.{delim_of};
 ghost use Rattle.items_writing.specs.Pieces.{is_marked, escaped_byte, escaped_by, quoted_by, lone, shown};
 
-use crate::Form;
 use items::Quotes;
 
 fn closing(k: Quotes) -> u8
@@ -22,10 +21,7 @@ fn closing(k: Quotes) -> u8
 fn is_marked(b: u8, mark: u8) -> bool
     ensures { result ≡ is_marked mark b }
 {
-    if b == mark {
-        return true;
-    }
-    b == b'\\'
+    b == mark || b == b'\\'
 }
 
 // How many bytes a byte takes.
@@ -58,10 +54,8 @@ fn escaped_length(t: &[u8], mark: u8) -> usize
     ensures { (result ≡ length (escaped_by mark t.now)) × (result ≤ 2 * refusal.limit) }
 {
     let mut n: usize = 0;
-    let mut i = 0;
-    while i < t.len() {
-        n += byte_length(t[i], mark);
-        i += 1;
+    for b in t {
+        n += byte_length(*b, mark);
     }
     n
 }
@@ -71,10 +65,8 @@ fn put_escaped(t: &[u8], mark: u8, out: &mut [u8]) -> usize
     ensures { (result ≡ length (escaped_by mark t.now)) × (out.new ≡ written (escaped_by mark t.now) out.old) }
 {
     let mut n: usize = 0;
-    let mut i = 0;
-    while i < t.len() {
-        n += put_byte(t[i], mark, &mut out[n..]);
-        i += 1;
+    for b in t {
+        n += put_byte(*b, mark, &mut out[n..]);
     }
     n
 }
@@ -115,32 +107,28 @@ fn put_plain(t: &[u8], out: &mut [u8]) -> usize
     requires { length t.now ≤ length out.old }
     ensures { (result ≡ length t.now) × (out.new ≡ written t.now out.old) }
 {
-    let mut i = 0;
-    while i < t.len() {
-        out[i] = t[i];
-        i += 1;
-    }
-    i
+    out[..t.len()].copy_from_slice(t);
+    t.len()
 }
 
 // How many bytes a text takes in its form.
-pub fn shown_length(t: &[u8], form: Form) -> usize
+pub fn shown_length(t: &[u8], form: Option<Quotes>) -> usize
     requires { length t.now ≤ refusal.limit }
     ensures { result ≡ length (shown form t.now) }
 {
     match form {
-        Form::AsIs => t.len(),
-        Form::Within(k) => 2 + escaped_length(t, closing(k)),
+        None => t.len(),
+        Some(k) => 2 + escaped_length(t, closing(k)),
     }
 }
 
 // A text in its form, from the memory's start on.
-pub fn put_shown(t: &[u8], form: Form, out: &mut [u8]) -> usize
+pub fn put_shown(t: &[u8], form: Option<Quotes>, out: &mut [u8]) -> usize
     requires { length (shown form t.now) ≤ length out.old }
     ensures { (result ≡ length (shown form t.now)) × (out.new ≡ written (shown form t.now) out.old) }
 {
     match form {
-        Form::AsIs => put_plain(t, out),
-        Form::Within(k) => put_quoted(t, closing(k), out),
+        None => put_plain(t, out),
+        Some(k) => put_quoted(t, closing(k), out),
     }
 }

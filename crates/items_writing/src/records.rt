@@ -5,7 +5,7 @@ ghost use Rattle.items_writing.specs.Records.{count_of, words_at, records_in, is
 ghost use Rattle.items_writing.specs.Pieces.{body_of, is_extent};
 
 use crate::whole::{is_inside, is_whole};
-use crate::{Judged, WriteWords};
+use crate::{WriteError, WriteWords};
 use items::kinds::{IN_MEMORY, IN_SOURCE, NO_TEXT};
 use items::{RECORD_WORDS, kinds};
 
@@ -28,25 +28,13 @@ pub fn words_at(records: &[u32], p: usize) -> WriteWords
 fn is_kind(k: u32) -> bool
     ensures { result ≡ is_kind k }
 {
-    if k <= kinds::DOT {
-        return true;
-    }
-    if k <= kinds::FIRST_ERROR {
-        return false;
-    }
-    k <= kinds::LAST_ERROR_KIND
+    k <= kinds::DOT || (kinds::FIRST_ERROR < k && k <= kinds::LAST_ERROR_KIND)
 }
 
 fn has_text(k: u32) -> bool
     ensures { result ≡ has_text k }
 {
-    if k == kinds::IDENTIFIER {
-        return true;
-    }
-    if k == kinds::KEYWORD {
-        return true;
-    }
-    k == kinds::STRING_LITERAL
+    k == kinds::IDENTIFIER || k == kinds::KEYWORD || k == kinds::STRING_LITERAL
 }
 
 // Of a record whose extent is whole characters.
@@ -54,78 +42,52 @@ fn text_right(source: &[u8], text: &[u8], w: WriteWords) -> bool
     requires { is_whole source.now w.start w.«end» ≡ true }
     ensures { result ≡ text_right source.now text.now w }
 {
-    if w.origin == IN_SOURCE {
-        if is_inside(source, w.start, w.end, w.first, w.past) {
-            return true;
+    match w.origin {
+        IN_SOURCE => {
+            is_inside(source, w.start, w.end, w.first, w.past) || is_whole(source, w.first, w.past)
         }
-        return is_whole(source, w.first, w.past);
+        IN_MEMORY => is_whole(text, w.first, w.past),
+        NO_TEXT => !has_text(w.kind),
+        _ => false,
     }
-    if w.origin == IN_MEMORY {
-        return is_whole(text, w.first, w.past);
-    }
-    if w.origin == NO_TEXT {
-        if has_text(w.kind) {
-            return false;
-        }
-        return true;
-    }
-    false
 }
 
 // Whether the text is all of the extent, as that of a plain name is.
 fn is_extent(w: WriteWords) -> bool
     ensures { result ≡ is_extent w }
 {
-    if w.origin != IN_SOURCE {
-        return false;
-    }
-    if w.first != w.start {
-        return false;
-    }
-    w.past == w.end
+    w.origin == IN_SOURCE && w.first == w.start && w.past == w.end
 }
 
 fn is_right(source: &[u8], text: &[u8], w: WriteWords) -> bool
     ensures { result ≡ is_right source.now text.now w }
 {
-    if is_kind(w.kind) {
-        if is_whole(source, w.start, w.end) {
-            if is_extent(w) {
-                return true;
-            }
-            return text_right(source, text, w);
-        }
-        return false;
-    }
-    false
+    is_kind(w.kind)
+        && is_whole(source, w.start, w.end)
+        && (is_extent(w) || text_right(source, text, w))
 }
 
 fn is_left(k: u32) -> bool
     ensures { result ≡ is_left k }
 {
-    if kinds::FIRST_ERROR < k {
-        return true;
-    }
-    k == kinds::COMMENT
+    kinds::FIRST_ERROR < k || k == kinds::COMMENT
 }
 
 // The first record that is refused.
-pub fn judge(records: &[u32], source: &[u8], text: &[u8]) -> Judged
+pub fn judge(records: &[u32], source: &[u8], text: &[u8]) -> Result<(), WriteError>
     ensures { result ≡ judge source.now text.now 0 (records_in records.now) }
 {
     let count = records.len() / RECORD_WORDS;
-    let mut p = 0;
-    while p < count {
+    for p in 0..count {
         let w = words_at(records, p);
         if !is_right(source, text, w) {
-            return Judged::Alien(p);
+            return Err(WriteError::Alien(p));
         }
         if is_left(w.kind) {
-            return Judged::Unwritten(p);
+            return Err(WriteError::Unwritten(p));
         }
-        p += 1;
     }
-    Judged::Fine
+    Ok(())
 }
 
 // A part of a slice that is there.
@@ -143,13 +105,11 @@ pub fn text_of<'a>(source: &'a [u8], text: &'a [u8], w: WriteWords) -> &'a [u8]
     requires { is_right source.now text.now w ≡ true }
     ensures { result.now ≡ text_of source.now text.now w }
 {
-    if w.origin == IN_SOURCE {
-        return part(source, w.first, w.past);
+    match w.origin {
+        IN_SOURCE => part(source, w.first, w.past),
+        IN_MEMORY => part(text, w.first, w.past),
+        _ => &source[..0],
     }
-    if w.origin == IN_MEMORY {
-        return part(text, w.first, w.past);
-    }
-    &source[..0]
 }
 
 // The bytes that its word is made of.
@@ -157,11 +117,8 @@ pub fn body_of<'a>(source: &'a [u8], text: &'a [u8], w: WriteWords) -> &'a [u8]
     requires { is_right source.now text.now w ≡ true }
     ensures { result.now ≡ body_of (entry_of source.now text.now w) }
 {
-    if w.kind == kinds::IDENTIFIER {
-        return text_of(source, text, w);
+    match w.kind {
+        kinds::IDENTIFIER | kinds::STRING_LITERAL => text_of(source, text, w),
+        _ => part(source, w.start, w.end),
     }
-    if w.kind == kinds::STRING_LITERAL {
-        return text_of(source, text, w);
-    }
-    part(source, w.start, w.end)
 }

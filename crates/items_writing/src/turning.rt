@@ -4,7 +4,6 @@ ghost use Rattle.std.specs.Prelude.{◌≡◌, true, ◌≤◌, ◌<◌, length,
 ghost use Rattle.laws.specs.Lent.{written};
 ghost use Rattle.refusal.specs.Refusals as refusal;
 ghost use Rattle.chars.specs.Utf8.{first_bad};
-ghost use Rattle.chars.specs.declared.Utf8.TheVariants.{Good};
 ghost use Rattle.items_writing.specs.Written.{joined};
 ghost use Rattle.items_writing.specs.Records.{count_of, records_in, is_right, entry_of};
 ghost use Rattle.items_writing.specs.Pieces.{form_for, piece, AllRight, TurnSaid};
@@ -12,24 +11,20 @@ ghost use Rattle.items_writing.specs.Pieces.{form_for, piece, AllRight, TurnSaid
 use crate::quoting::{lone_length, put_lone, put_shown, shown_length};
 use crate::records::{body_of, text_of, words_at};
 use crate::word::{reads_bare, reads_pair};
-use crate::{Form, WriteTurn, WriteWords};
+use crate::{WriteTurn, WriteWords};
 use items::{Quotes, RECORD_WORDS, kinds};
 
 // The form of an item of a kind, whose word is made of t.
-fn form_for(k: u32, t: &[u8], first: bool, last: bool) -> Form
-    requires { first_bad t.now ≡ Good }
+fn form_for(k: u32, t: &[u8], first: bool, last: bool) -> Option<Quotes>
+    requires { first_bad t.now ≡ None }
     ensures { result ≡ form_for k first last t.now }
 {
-    if k == kinds::IDENTIFIER {
-        if reads_bare(t, first, last) {
-            return Form::AsIs;
-        }
-        return Form::Within(Quotes::Lines);
+    match k {
+        kinds::IDENTIFIER if reads_bare(t, first, last) => None,
+        kinds::IDENTIFIER => Some(Quotes::Lines),
+        kinds::STRING_LITERAL => Some(Quotes::Double),
+        _ => None,
     }
-    if k == kinds::STRING_LITERAL {
-        return Form::Within(Quotes::Double);
-    }
-    Form::AsIs
 }
 
 // Whether two items in a row are written as one word.
@@ -37,22 +32,12 @@ fn joins<'a>(source: &'a [u8], text: &'a [u8], e: WriteWords, f: WriteWords) -> 
     requires { (is_right source.now text.now e ≡ true) × (is_right source.now text.now f ≡ true) }
     ensures { result ≡ joined (entry_of source.now text.now e) (entry_of source.now text.now f) }
 {
-    if e.kind != kinds::IDENTIFIER {
-        return false;
-    }
-    if f.kind != kinds::IDENTIFIER {
-        return false;
-    }
-    if e.start != f.start {
-        return false;
-    }
-    if e.end != f.end {
-        return false;
-    }
-    if !byte_runs::equal(text_of(source, text, e), b"+") {
-        return false;
-    }
-    reads_pair(text_of(source, text, f))
+    e.kind == kinds::IDENTIFIER
+        && f.kind == kinds::IDENTIFIER
+        && e.start == f.start
+        && e.end == f.end
+        && byte_runs::equal(text_of(source, text, e), b"+")
+        && reads_pair(text_of(source, text, f))
 }
 
 // The turn at a place of records that are not refused.
@@ -74,7 +59,7 @@ pub fn turn_at<'a>(
             return WriteTurn {
                 last: next,
                 pair: true,
-                form: Form::AsIs,
+                form: None,
             };
         }
         return WriteTurn {

@@ -1,7 +1,6 @@
 // Whether a word reads back bare where it will stand: the machine over the word, and one step more.
 ghost use Rattle.std.specs.Prelude.{◌≡◌, ◌+◌, ◌<◌, ◌≤◌, length, take, drop, false, ◌&&◌, ◌∷◌};
 ghost use Rattle.chars.specs.Utf8.{chars, first_bad};
-ghost use Rattle.chars.specs.declared.Utf8.TheVariants.{Good};
 ghost use Rattle.items.specs.Readers.{so_far};
 ghost use Rattle.items.specs.Machine.{depth_of};
 ghost use Rattle.laws.specs.Quoted.{code, codes};
@@ -9,44 +8,43 @@ ghost use Rattle.laws.specs.Texts.{begins};
 ghost use Rattle.items_writing.specs.Written.{bare, splits};
 ghost use Rattle.items_writing.specs.Decide.{close_of, stand_from, name_word, is_name, is_pair_of, is_lined, lines_as};
 
-use crate::Stand;
 use byte_runs::{begins_with, starts_at};
 use chars::{Decoded, decode_at, is_blank};
 use items::kinds::IDENTIFIER;
 use items::{Next, Outcome, Phase, Quotes};
-use numbers::{Parsed, parse_number, plus_number};
+use numbers::{ParseError, parse_number, plus_number};
 use spellings::words::word_kind;
 use steps::signs::SPACE;
 use steps::{ascii_run, finish, first_phase, step};
 
 // A word that was read to its end in a phase: at the end of the text, or before a space, which is one step more.
-fn close_step(t: &[u8], phase: Phase, last: bool) -> Stand
+fn close_step(t: &[u8], phase: Phase, last: bool) -> Option<Outcome>
     requires { depth_of phase ≤ length t.now }
     ensures { result ≡ close_of last phase (so_far t.now (length t.now)) }
 {
     if last {
-        return Stand::Ends(finish(phase, t));
+        return Some(finish(phase, t));
     }
     match step(true, phase, t, t.len(), SPACE) {
-        Next::Eat(then) => Stand::Apart,
-        Next::Stop(what) => Stand::Ends(what),
+        Next::Eat(then) => None,
+        Next::Stop(what) => Some(what),
     }
 }
 
 // The same. Most words are a word or a run to their end, which either ends.
-fn close(t: &[u8], phase: Phase, last: bool) -> Stand
+fn close(t: &[u8], phase: Phase, last: bool) -> Option<Outcome>
     requires { depth_of phase ≤ length t.now }
     ensures { result ≡ close_of last phase (so_far t.now (length t.now)) }
 {
     match phase {
-        Phase::InWord => Stand::Ends(Outcome::Word),
-        Phase::InRun => Stand::Ends(Outcome::Run),
+        Phase::InWord => Some(Outcome::Word),
+        Phase::InRun => Some(Outcome::Run),
         _ => close_step(t, phase, last),
     }
 }
 
 // A word that stands in a phase at a place, to its end: a run at a time, and a step after each.
-fn stand_on(t: &[u8], from: usize, first: Phase, last: bool) -> Stand
+fn stand_on(t: &[u8], from: usize, first: Phase, last: bool) -> Option<Outcome>
     requires { (from ≤ length t.now) × (depth_of first ≤ from) }
     ensures { result ≡ stand_from last first (so_far (take from t.now) from) (chars (drop from t.now)) }
 {
@@ -61,16 +59,10 @@ fn stand_on(t: &[u8], from: usize, first: Phase, last: bool) -> Stand
                     at = next;
                 }
                 Next::Stop(what) => {
-                    return Stand::Apart;
+                    return None;
                 }
             },
-            Decoded::Bad => {
-                return close(&t[..at], phase, last);
-            }
-            Decoded::Cut => {
-                return close(&t[..at], phase, last);
-            }
-            Decoded::End => {
+            _ => {
                 return close(&t[..at], phase, last);
             }
         }
@@ -82,13 +74,7 @@ fn stand_on(t: &[u8], from: usize, first: Phase, last: bool) -> Stand
 fn name_word(raw: &[u8]) -> bool
     ensures { result ≡ name_word raw.now }
 {
-    if word_kind(raw) != IDENTIFIER {
-        return false;
-    }
-    if raw.len() <= 1 {
-        return true;
-    }
-    raw[0] != b'+'
+    word_kind(raw) == IDENTIFIER && (raw.len() <= 1 || raw[0] != b'+')
 }
 
 // Whether an extent is one identifier, which is its own text.
@@ -98,9 +84,9 @@ fn is_name(what: Outcome, raw: &[u8]) -> bool
     match what {
         Outcome::Word => name_word(raw),
         Outcome::Run => match parse_number(raw) {
-            Parsed::Is(_parts) => false,
-            Parsed::NoNumber => name_word(raw),
-            Parsed::ZeroDenominator => false,
+            Ok(_) => false,
+            Err(ParseError::NoNumber) => name_word(raw),
+            Err(ParseError::ZeroDenominator) => false,
         },
         _ => false,
     }
@@ -110,15 +96,12 @@ fn is_name(what: Outcome, raw: &[u8]) -> bool
 fn opens_line(t: &[u8], first: bool) -> bool
     ensures { result ≡ (first && begins (codes "#!") t.now) }
 {
-    if first {
-        return begins_with(t, b"#!");
-    }
-    false
+    first && begins_with(t, b"#!")
 }
 
 // Whether a word of whole characters reads back bare; `first` and `last` say that nothing stands before it, and after it.
 pub fn reads_bare(t: &[u8], first: bool, last: bool) -> bool
-    requires { first_bad t.now ≡ Good }
+    requires { first_bad t.now ≡ None }
     ensures { result ≡ bare first last t.now }
 {
     match decode_at(t, 0) {
@@ -130,13 +113,11 @@ pub fn reads_bare(t: &[u8], first: bool, last: bool) -> bool
                 return false;
             }
             match stand_on(t, next, first_phase(code), last) {
-                Stand::Ends(what) => is_name(what, t),
-                Stand::Apart => false,
+                Some(what) => is_name(what, t),
+                None => false,
             }
         }
-        Decoded::Bad => false,
-        Decoded::Cut => false,
-        Decoded::End => false,
+        _ => false,
     }
 }
 
@@ -145,8 +126,8 @@ fn is_pair_of(what: Outcome, t: &[u8]) -> bool
     ensures { result ≡ is_pair_of what t.now }
 {
     match what {
-        Outcome::Word => 0 < t.len(),
-        Outcome::Run => { if 0 < t.len() { !plus_number(t) } else { false } }
+        Outcome::Word => !t.is_empty(),
+        Outcome::Run => !t.is_empty() && !plus_number(t),
         _ => false,
     }
 }
@@ -155,10 +136,7 @@ fn is_pair_of(what: Outcome, t: &[u8]) -> bool
 fn is_lined(what: Outcome) -> bool
     ensures { result ≡ is_lined what }
 {
-    match what {
-        Outcome::Lined => true,
-        _ => false,
-    }
+    matches!(what, Outcome::Lined)
 }
 
 // Whether a text that begins with a vertical line is one identifier in vertical lines before a blank.
@@ -167,14 +145,14 @@ fn reads_lined(t: &[u8]) -> bool
     ensures { result ≡ lines_as (stand_from false (Phase.Quoted Quotes.Lines) (so_far (take 1 t.now) 1) (chars (drop 1 t.now))) }
 {
     match stand_on(t, 1, Phase::Quoted(Quotes::Lines), false) {
-        Stand::Ends(what) => is_lined(what),
-        Stand::Apart => false,
+        Some(what) => is_lined(what),
+        None => false,
     }
 }
 
 // Whether a plus and t, before a blank, read back as a pair: +foo, +|a b|
 pub fn reads_pair(t: &[u8]) -> bool
-    requires { first_bad t.now ≡ Good }
+    requires { first_bad t.now ≡ None }
     ensures { result ≡ splits (code "+" ∷ t.now) }
 {
     let k = ascii_run(t, 0, Phase::InRun);
@@ -185,7 +163,7 @@ pub fn reads_pair(t: &[u8]) -> bool
         return reads_lined(&t[k..]);
     }
     match stand_on(t, k, Phase::InRun, false) {
-        Stand::Ends(what) => is_pair_of(what, t),
-        Stand::Apart => false,
+        Some(what) => is_pair_of(what, t),
+        None => false,
     }
 }

@@ -6,7 +6,7 @@ ghost use Rattle.items_writing.specs.Call.{write_of, answered};
 ghost use Rattle.items_writing_exports.specs.Write.{number_of, value_of, sees, seen};
 
 use exports_values::{NumberAndValue, put_value};
-use items_writing::WriteAnswer;
+use items_writing::WriteError;
 use refusal::{ALIEN, LIMIT_VALUE, SERVED, TOO_FEW, TOO_LONG, UNWRITTEN};
 
 // An answer of a number and a value.
@@ -17,15 +17,15 @@ fn tell(number: u32, value: u64) -> NumberAndValue
 }
 
 // An answer by its number and its value.
-fn answer(a: WriteAnswer) -> NumberAndValue
+fn answer(a: Result<usize, WriteError>) -> NumberAndValue
     ensures { (result.number ≡ number_of (answered a)) × (result.value ≡ value_of (answered a)) }
 {
     match a {
-        WriteAnswer::Written(bytes) => tell(SERVED, bytes as u64),
-        WriteAnswer::Alien(record) => tell(ALIEN, record as u64),
-        WriteAnswer::Unwritten(record) => tell(UNWRITTEN, record as u64),
-        WriteAnswer::TooLong => tell(TOO_LONG, LIMIT_VALUE),
-        WriteAnswer::NoRoom(bytes) => tell(TOO_FEW, bytes as u64),
+        Ok(bytes) => tell(SERVED, bytes as u64),
+        Err(WriteError::Alien(record)) => tell(ALIEN, record as u64),
+        Err(WriteError::Unwritten(record)) => tell(UNWRITTEN, record as u64),
+        Err(WriteError::TooLong) => tell(TOO_LONG, LIMIT_VALUE),
+        Err(WriteError::NoRoom(bytes)) => tell(TOO_FEW, bytes as u64),
     }
 }
 

@@ -1,5 +1,5 @@
 -- What is refused, and the memory: `items_writing::write` ensures `call (answered r) out' ≡ write_of records source text out`.
-use Rattle.std.specs.Prelude.{ℕ, ◌<◌, ◌≤◌, ◌≡◌, refl, true, List, [], ◌∷◌, ◌++◌, length, eqb, if◌then◌else◌}
+use Rattle.std.specs.Prelude.{ℕ, ◌<◌, ◌≤◌, ◌≡◌, refl, true, List, [], ◌∷◌, ◌++◌, length, eqb, if◌then◌else◌, Result, Ok, Err}
 use Rattle.std.proofs.Common.{sym, ap, ◌∙◌}
 use borrow.Author.Tests.{lt-ltb, le-ltb}
 use Rattle.laws.specs.Quoted.{within}
@@ -8,34 +8,34 @@ use Rattle.refusal.specs.Refusals as refusal
 use Rattle.chars.specs.Encode.{utf8, width, encode, bytes_of, spelled}
 use Rattle.chars.specs.Utf8.{first, rest, front, sequences, first_bad}
 use Rattle.items.specs.Kinds as kind
-use Rattle.items_writing.specs.declared.Judged.TheVariants.{Fine}
-use Rattle.items_writing.specs.declared.WriteAnswer.{WriteAnswer}
-use Rattle.items_writing.specs.declared.WriteAnswer.TheVariants as answer
+use Rattle.items_writing.specs.declared.WriteError.{WriteError}
+use Rattle.items_writing.specs.declared.WriteError.TheVariants as error
 use Rattle.items_writing.specs.Written.{word_of, twins, joined, written}
-use Rattle.items_writing.specs.Records.{records_in, records_from, is_whole, is_kind, has_text, text_right, is_right, is_left, judge, text_of, entries_of}
+use Rattle.items_writing.specs.Records.{records_in, records_from, is_whole, is_kind, has_text, text_right, is_right, is_left, fine, judge, text_of, entries_of}
 use Rattle.items_writing.specs.Call.{Answer, served, refused, Call, call, deliver, write_within, write_of, answered}
 use Rattle.items_writing_promises.specs.Shapes.{room, record_of, bare, name, writing, refuses}
 
 -- two answers that the contract permits coincide, and so do the memories
-answered_one : (a b : WriteAnswer) → answered a ≡ answered b → a ≡ b
+answered_one : (a b : Result ℕ WriteError) → answered a ≡ answered b → a ≡ b
 answered_one a b e = sym (back-answered a) ∙ ap back e ∙ back-answered b
   where
-    back : Answer → WriteAnswer
-    back (served n) = answer.Written n
+    back : Answer → Result ℕ WriteError
+    back (served n) = Ok n
     back (refused n p) =
-        if eqb n refusal.alien then answer.Alien p
-        else if eqb n refusal.unwritten then answer.Unwritten p
-        else if eqb n refusal.too_few then answer.NoRoom p
-        else answer.TooLong
+        Err
+        (if eqb n refusal.alien then error.Alien p
+        else if eqb n refusal.unwritten then error.Unwritten p
+        else if eqb n refusal.too_few then error.NoRoom p
+        else error.TooLong)
 
-    back-answered : (a : WriteAnswer) → back (answered a) ≡ a
-    back-answered (answer.Written n) = refl
-    back-answered (answer.Alien p) = refl
-    back-answered (answer.Unwritten p) = refl
-    back-answered answer.TooLong = refl
-    back-answered (answer.NoRoom n) = refl
+    back-answered : (a : Result ℕ WriteError) → back (answered a) ≡ a
+    back-answered (Ok n) = refl
+    back-answered (Err (error.Alien p)) = refl
+    back-answered (Err (error.Unwritten p)) = refl
+    back-answered (Err error.TooLong) = refl
+    back-answered (Err (error.NoRoom n)) = refl
 
-pub one_answer : (records source text out : List ℕ) (a b : WriteAnswer) (m n : List ℕ) → call (answered a) m ≡ write_of records source text out
+pub one_answer : (records source text out : List ℕ) (a b : Result ℕ WriteError) (m n : List ℕ) → call (answered a) m ≡ write_of records source text out
     → call (answered b) n ≡ write_of records source text out → (a ≡ b) × (m ≡ n)
 one_answer records source text out a b m n e f =
     (answered_one a b (ap (λ (c : Call). c.answer) (e ∙ sym f)), ap (λ (c : Call). c.out) (e ∙ sym f))
@@ -94,15 +94,15 @@ rows = record {
 }
 
 -- texts that no row could hold: past the limit 20, also where the memory is too small; a text of just the limit is written
-module _ (records source text out : List ℕ) (fine : judge source text 0 (records_in records) ≡ Fine) where
+module _ (records source text out : List ℕ) (right : judge source text 0 (records_in records) ≡ fine) where
   abbrev result : List ℕ
   result = written true (entries_of source text (records_in records))
 
   too_long_first : 4294967295 < length result → write_of records source text out ≡ call (refused 20 4294967295) out
   unfolding write_within deliver
-  too_long_first h = simp (fine, lt-ltb refusal.limit (length result) h)
+  too_long_first h = simp (right, lt-ltb refusal.limit (length result) h)
 
   longest_written : length result ≡ 4294967295 → 4294967295 ≤ length out
       → write_of records source text out ≡ call (served 4294967295) (lent.written result out)
   unfolding write_within deliver
-  longest_written e h = simp (fine, e, le-ltb (length out) 4294967295 h)
+  longest_written e h = simp (right, e, le-ltb (length out) 4294967295 h)

@@ -1,5 +1,6 @@
 -- The records of a text, with the text memory that they were read into, are never refused 48 or 47 where none is an error or a comment: the
 -- call writes what the definition writes for the text's items.
+use Rattle.std.proofs.Common.{None}
 use Prim.Native.Nat.{ℕ, zero, suc, ◌+◌, ◌-◌, ◌*◌, ◌≤◌, ◌<◌}
 use mathlib.Core.Path.{◌≡◌, refl, sym, ap, subst, ◌∙◌}
 use mathlib.Core.Bool.{Bool, true, false, not, ◌&&◌}
@@ -11,7 +12,6 @@ use native.Mathlib.Omega.{arith}
 use borrow.Author.Tests.{le-leb, le-ltb, ltb-true, not-true}
 use Rattle.laws.proofs.Choice.{by_bool, and_true, no_yes}
 use Rattle.chars.specs.Utf8.{chars, first_bad}
-use Rattle.chars.specs.declared.Utf8.TheVariants.{Good}
 use Rattle.chars.proofs.Good.{encoded_good, good_bytes_lem}
 use Rattle.items.specs.Meaning.{Text, none, source, decoded}
 use Rattle.items.specs.Items.{Item, kept, record_of, byte_count, record_words, text_words, depth_after, memory_of, records, texts}
@@ -24,8 +24,7 @@ use Rattle.items.proofs.Splits.{length_bytes}
 use Rattle.items_writing.specs.Written.{part, text_bytes, entry, entries, reads}
 use Rattle.items_writing.specs.Shapes.{clean}
 use Rattle.items_writing.specs.declared.WriteWords.{WriteWords}
-use Rattle.items_writing.specs.declared.Judged.TheVariants.{Fine}
-use Rattle.items_writing.specs.Records.{count_of, words_at, records_from, records_in, is_whole, is_kind, text_right, is_right, is_left, judge, text_of, entry_of, entries_of}
+use Rattle.items_writing.specs.Records.{count_of, words_at, records_from, records_in, is_whole, is_kind, text_right, is_right, is_left, fine, judge, text_of, entry_of, entries_of}
 use Rattle.items_writing.specs.Call.{deliver, write_within, write_of}
 use Rattle.refusal.specs.Refusals as refusal
 use Rattle.items_writing_theorems.specs.Results.{result}
@@ -182,14 +181,14 @@ kind_is free k a e (source x y) = refl
 kind_is free k a e (decoded bs) = refl
 
 judged_fine : (past : List ℕ) → length past < record_words → (s front back : List ℕ) (n depth : ℕ) (is : List Item) → Every (Placed (length s)) is → Every (Right s) is → clean is ≡ true
-    → judge s (front ++ (texts is ++ back)) n (records_in (records (length front) depth is ++ past)) ≡ Fine
+    → judge s (front ++ (texts is ++ back)) n (records_in (records (length front) depth is ++ past)) ≡ fine
 unfolding judge records texts
 judged_fine past few s front back n depth [] p r h = ap (judge s (front ++ (texts [] ++ back)) n) (no_records past few (length front) depth)
 judged_fine past few s front back n depth (i ∷ is) p r h =
     let mem : List ℕ = front ++ (texts (i ∷ is) ++ back) in
-    let rest : judge s mem (n + 1) (records_in (records (length front + length (memory_of i.text)) (deeper depth i) is ++ past)) ≡ Fine
-    = subst (λ (m : ℕ). judge s mem (n + 1) (records_in (records m (deeper depth i) is ++ past)) ≡ Fine) (further s front back i is)
-    (subst (λ (m : List ℕ). judge s m (n + 1) (records_in (records (length (front ++ memory_of i.text)) (deeper depth i) is ++ past)) ≡ Fine) (sym (passed s front back i is))
+    let rest : judge s mem (n + 1) (records_in (records (length front + length (memory_of i.text)) (deeper depth i) is ++ past)) ≡ fine
+    = subst (λ (m : ℕ). judge s mem (n + 1) (records_in (records m (deeper depth i) is ++ past)) ≡ fine) (further s front back i is)
+    (subst (λ (m : List ℕ). judge s m (n + 1) (records_in (records (length (front ++ memory_of i.text)) (deeper depth i) is ++ past)) ≡ fine) (sym (passed s front back i is))
     (judged_fine past few s (front ++ memory_of i.text) back (n + 1) (deeper depth i) is p.1 r.1 (clean_head i is h).1)) in
     ap (judge s mem n) (more_records past few (length front) depth i is) ∙
     (rw (right_is s front back i is p.0 r.0, ap is_left (kind_is (length front) i.kind i.start i.end i.text) ∙ clean-kind i is h) rest)
@@ -201,7 +200,7 @@ listed_right s [] h = tt
 listed_right s (i ∷ is) h = h.1
 
 -- `past` is what the caller hands on past the records, less than one more, and `back` what lies in the text memory past the texts
-pub written_back : (s : List ℕ) (skip : Bool) (past back out : List ℕ) → first_bad s ≡ Good → clean (kept skip (reads s)) ≡ true → length past < record_words
+pub written_back : (s : List ℕ) (skip : Bool) (past back out : List ℕ) → first_bad s ≡ None → clean (kept skip (reads s)) ≡ true → length past < record_words
     → write_of (records 0 0 (kept skip (reads s)) ++ past) s (texts (kept skip (reads s)) ++ back) out ≡ deliver refusal.limit (result s (kept skip (reads s))) out
 unfolding write_within
 written_back s skip past back out g w few =

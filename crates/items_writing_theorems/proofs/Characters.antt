@@ -1,4 +1,5 @@
 -- Texts that are whole characters: what is between quotes, with its escapes decoded, is whole characters where the item is.
+use Rattle.std.proofs.Common.{Ok, Err}
 use Prim.Native.Nat.{ℕ}
 use mathlib.Core.Path.{◌≡◌, refl, sym, ap, subst, ◌∙◌}
 use mathlib.Core.Bool.{Bool, true, false}
@@ -8,12 +9,9 @@ use Rattle.laws.specs.Quoted.{code, codes, within}
 use Rattle.laws.proofs.Choice.{by_bool, if_all, impossible}
 use Rattle.chars.specs.Encode.{is_scalar, utf8, encode, bytes_of}
 use Rattle.chars.proofs.Good.{Scalars}
-use Rattle.digits.specs.Hex.{hex_value}
-use Rattle.digits.specs.declared.Hex.{Hex}
-use Rattle.digits.specs.declared.Hex.TheVariants as hex
+use Rattle.digits.specs.Hex.{hex_value, Hex}
 use Rattle.items.specs.declared.Quotes.{Quotes}
 use Rattle.items.specs.declared.Quotes.TheVariants.{Double, Lines}
-use Rattle.items.specs.declared.CharValue.TheVariants.{Scalar, Wrong}
 use Rattle.items.specs.Classes.{delim_of, in_quotes, AfterBackslash, after_backslash, simple, hex_x, hex_u, blank, newline, invalid}
 use Rattle.items.specs.Classes.{in_hex, stops_hex, digit, in_trim, solid}
 use Rattle.items.specs.Meaning.{unescape, unescape_next, unescape_brace, unescape_hex, unescape_trim}
@@ -42,12 +40,12 @@ texty_ascii c {bs} l h t = subst (λ (x : List ℕ). Texty (x ++ bs)) (utf8_low 
 
 -- ---- the characters that escapes stand for
 
-scalar_is : (h : Hex) (v : ℕ) → scalar_of h ≡ Scalar v → is_scalar v ≡ true
+scalar_is : (h : Hex) (v : ℕ) → scalar_of h ≡ Ok v → is_scalar v ≡ true
 unfolding scalar_of
-scalar_is (hex.Value x) v e = by_bool (is_scalar x)
-    (λ f. let z : Scalar x ≡ Scalar v = rw f at e in let y : x ≡ v = cc in rw (← y) f)
+scalar_is (Ok x) v e = by_bool (is_scalar x)
+    (λ f. let z : Ok x ≡ Ok v = rw f at e in let y : x ≡ v = cc in rw (← y) f)
     (λ f. let z = rw f at e in impossible cc)
-scalar_is (hex.Wrong d p) v e = impossible cc
+scalar_is (Err w) v e = impossible cc
 
 abbrev SimpleAscii : AfterBackslash → Type 0
 SimpleAscii (simple x) = (ltb x 0x80 ≡ true) × (is_scalar x ≡ true)

@@ -1,4 +1,5 @@
 -- The items of an extent of a text may be written back.
+use Rattle.std.proofs.Common.{Ok, Err, Result}
 use Prim.Native.Nat.{ℕ, suc, ◌+◌, ◌-◌, ◌≤◌, ◌<◌}
 use mathlib.Core.Path.{◌≡◌, refl, sym, ap, subst, ◌∙◌}
 use mathlib.Core.Bool.{Bool, true, false, ◌&&◌}
@@ -11,14 +12,13 @@ use Rattle.laws.specs.Texts.{before}
 use Rattle.laws.proofs.Choice.{by_bool, and_true, if_is}
 use Rattle.chars.specs.Encode.{is_scalar, utf8, bytes_of}
 use Rattle.chars.proofs.Good.{Scalars}
-use Rattle.numbers.specs.declared.Parsed.{Parsed}
-use Rattle.numbers.specs.declared.Parsed.TheVariants as parsed
-use Rattle.numbers.specs.Grammar.{parse_number}
+use Rattle.numbers.specs.declared.ParseError.TheVariants as parsed
+use Rattle.numbers.specs.Grammar.{parse_number, Parsed}
 use Rattle.items.specs.declared.Quotes.TheVariants.{Double, Lines}
 use Rattle.items.specs.declared.Outcome.{Outcome}
 use Rattle.items.specs.declared.Outcome.TheVariants.{Token, Str, HereStr, Word, Run, Lined, Keyword, Character, Error, ErrorAt}
-use Rattle.items.specs.declared.CharValue.{CharValue}
-use Rattle.items.specs.declared.CharValue.TheVariants.{Scalar, Wrong, WrongAt}
+use Rattle.items.specs.declared.CharError.{CharError}
+use Rattle.items.specs.declared.CharError.TheVariants.{Wrong, WrongAt}
 use Rattle.items.specs.Readers.{first_is, here_ends, here_inside, after_line, line_of}
 use Rattle.items.specs.Meaning.{Text, none, source, decoded, means, meaning_of, word_kind, word_means, run_means, escaped, unescape, string_text, lined_text, here_text, character_of, char_inside}
 use Rattle.items.specs.Items.{Item, Place, item_of, items_of, byte_count}
@@ -149,10 +149,10 @@ module _ (pre : List ℕ) (c : ℕ) (t post : List ℕ) (h : Scalars (c ∷ t)) 
     run_sounds : (q : Parsed) → parse_number raw ≡ q → (Other Run raw → AllSound last full (items_of true p at end (meaning_of true Run at end raw)))
         → kind_in (meaning_of true Run at end raw) < kind.first_error → AllSound last full (items_of true p at end (meaning_of true Run at end raw))
     unfolding run_means
-    run_sounds (parsed.Is x) e other good = other (λ s y. rw e (omega arith, (refl, refl)))
-    run_sounds parsed.NoNumber e other good =
+    run_sounds (Ok x) e other good = other (λ s y. rw e (omega arith, (refl, refl)))
+    run_sounds (Err parsed.NoNumber) e other good =
         rw e (word_sounds (λ f. (rw e at (other (λ s y. rw e (f s y))))) (rw e at good))
-    run_sounds parsed.ZeroDenominator e other good = let z = rw e at good in absurd (omega arith)
+    run_sounds (Err parsed.ZeroDenominator) e other good = let z = rw e at good in absurd (omega arith)
 
     -- ---- quotes
 
@@ -204,11 +204,11 @@ module _ (pre : List ℕ) (c : ℕ) (t post : List ℕ) (h : Scalars (c ∷ t)) 
 
     -- ---- every outcome
 
-    character_sounds : (w : CharValue) → character_of true (char_inside raw) ≡ w → (Other Character raw → AllSound last full (items_of true p at end (meaning_of true Character at end raw)))
+    character_sounds : (w : Result ℕ CharError) → character_of true (char_inside raw) ≡ w → (Other Character raw → AllSound last full (items_of true p at end (meaning_of true Character at end raw)))
         → kind_in (meaning_of true Character at end raw) < kind.first_error → AllSound last full (items_of true p at end (meaning_of true Character at end raw))
-    character_sounds (Scalar x) e other good = other (λ s y. rw e (omega arith, (refl, refl)))
-    character_sounds (Wrong n d) e other good = let z = rw e at good in absurd (omega arith)
-    character_sounds (WrongAt n d q) e other good = let z = rw e at good in absurd (omega arith)
+    character_sounds (Ok x) e other good = other (λ s y. rw e (omega arith, (refl, refl)))
+    character_sounds (Err (Wrong n d)) e other good = let z = rw e at good in absurd (omega arith)
+    character_sounds (Err (WrongAt n d q)) e other good = let z = rw e at good in absurd (omega arith)
 
     pub extent_sounds : (o : Outcome) (n : ℕ) → Known (c ∷ t) o → Fine (λ (x : ℕ). Unit {0}) n raw o
         → (Other o raw → AllSound last full (items_of true p at end (meaning_of true o at end raw)))

@@ -1,4 +1,5 @@
 -- An item of a text that is neither an identifier nor a string may be written back as its own extent.
+use Rattle.std.proofs.Common.{Ok, Err, Result}
 use Prim.Native.Nat.{ℕ, ◌+◌}
 use mathlib.Core.Path.{◌≡◌, refl, sym, ap, subst, ◌∙◌}
 use mathlib.Core.Bool.{Bool, true, false}
@@ -13,11 +14,10 @@ use Rattle.chars.specs.Encode.{bytes_of}
 use Rattle.chars.proofs.Good.{Scalars}
 use Rattle.items.specs.declared.Outcome.{Outcome}
 use Rattle.items.specs.declared.Outcome.TheVariants.{Token, Str, HereStr, Word, Run, Lined, Keyword, Character, Error, ErrorAt}
-use Rattle.numbers.specs.declared.Parsed.{Parsed}
-use Rattle.numbers.specs.declared.Parsed.TheVariants as parsed
-use Rattle.numbers.specs.Grammar.{parse_number}
-use Rattle.items.specs.declared.CharValue.{CharValue}
-use Rattle.items.specs.declared.CharValue.TheVariants.{Scalar, Wrong, WrongAt}
+use Rattle.numbers.specs.declared.ParseError.TheVariants as parsed
+use Rattle.numbers.specs.Grammar.{parse_number, Parsed}
+use Rattle.items.specs.declared.CharError.{CharError}
+use Rattle.items.specs.declared.CharError.TheVariants.{Wrong, WrongAt}
 use Rattle.items.specs.Meaning.{Meaning, means, one, meaning_of, word_kind, word_means, run_means, character_of, char_inside}
 use Rattle.items.specs.Items.{Item, Place, item_of, items_of, byte_count}
 use Rattle.items.specs.Kinds as kind
@@ -92,15 +92,15 @@ module _ (pre : List ℕ) (c : ℕ) (t post : List ℕ) where
 
   run_fits : (q : Parsed) → parse_number (bytes_of (c ∷ t)) ≡ q → Other Run (bytes_of (c ∷ t)) → Fits Run
   unfolding run_means has_text
-  run_fits (parsed.Is x) e h = rw e (refl, refl)
-  run_fits parsed.NoNumber e h = rw e (word_fits (λ s y. rw e at (h s y)))
-  run_fits parsed.ZeroDenominator e h = let z = rw e at (h 0 0).0 in absurd (omega arith)
+  run_fits (Ok x) e h = rw e (refl, refl)
+  run_fits (Err parsed.NoNumber) e h = rw e (word_fits (λ s y. rw e at (h s y)))
+  run_fits (Err parsed.ZeroDenominator) e h = let z = rw e at (h 0 0).0 in absurd (omega arith)
 
-  character_fits : (v : CharValue) → character_of true (char_inside (bytes_of (c ∷ t))) ≡ v → Other Character (bytes_of (c ∷ t)) → Fits Character
+  character_fits : (v : Result ℕ CharError) → character_of true (char_inside (bytes_of (c ∷ t))) ≡ v → Other Character (bytes_of (c ∷ t)) → Fits Character
   unfolding has_text
-  character_fits (Scalar x) e h = rw e (refl, refl)
-  character_fits (Wrong n d) e h = let z = rw e at (h 0 0).0 in absurd (omega arith)
-  character_fits (WrongAt n d q) e h = let z = rw e at (h 0 0).0 in absurd (omega arith)
+  character_fits (Ok x) e h = rw e (refl, refl)
+  character_fits (Err (Wrong n d)) e h = let z = rw e at (h 0 0).0 in absurd (omega arith)
+  character_fits (Err (WrongAt n d q)) e h = let z = rw e at (h 0 0).0 in absurd (omega arith)
 
   other_fits : (o : Outcome) → Scalars (c ∷ t) → Known (c ∷ t) o → Other o (bytes_of (c ∷ t)) → Fits o
   unfolding has_text

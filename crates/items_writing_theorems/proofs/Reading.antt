@@ -1,4 +1,5 @@
 -- Reading a text from left to right: which shapes its items have.
+use Rattle.std.proofs.Common.{Err}
 use Prim.Native.Nat.{ℕ, zero, suc, ◌+◌, ◌≤◌}
 use mathlib.Core.Path.{◌≡◌, refl, sym, ap, subst, ◌∙◌}
 use mathlib.Core.Bool.{true}
@@ -11,7 +12,7 @@ use Rattle.chars.specs.Blank.{is_blank}
 use Rattle.chars.specs.Encode.{utf8, width, bytes_of}
 use Rattle.chars.proofs.Bytes.{bytes_append}
 use Rattle.chars.proofs.Width.{width-utf8}
-use Rattle.numbers.specs.declared.Parsed.TheVariants.{NoNumber}
+use Rattle.numbers.specs.declared.ParseError.TheVariants.{NoNumber}
 use Rattle.items.specs.Kinds as kind
 use Rattle.items.specs.Items.{Place, unset, items_from, byte_count}
 use Rattle.items.specs.Meaning.{Text, none, source, decoded}
@@ -124,7 +125,7 @@ module _ (pre t post : List ℕ) where
 
 -- an identifier
 abbrev pub name_shape : List ℕ → Shape
-name_shape t = shape kind.Identifier 0 (bytes t) NoNumber
+name_shape t = shape kind.Identifier 0 (bytes t) (Err NoNumber)
 
 pub reading_two : {t cs : List ℕ} {ss : List Shape} → ReadTwo t cs → Reading cs ss
     → Reading (code "+" ∷ t ++ cs) (name_shape (code "+" ∷ []) ∷ name_shape (bytes_of t) ∷ ss)

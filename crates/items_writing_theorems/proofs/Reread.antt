@@ -1,4 +1,5 @@
 -- An item that is neither an identifier nor a string, read again from its own extent's bytes.
+use Rattle.std.proofs.Common.{Ok, Err, Result}
 use Prim.Native.Nat.{ℕ, ◌+◌, ◌<◌}
 use mathlib.Core.Path.{◌≡◌, refl, sym, ◌∙◌}
 use mathlib.Core.Bool.{Bool, true, false}
@@ -8,13 +9,12 @@ use borrow.Author.Tests.{lt-leb}
 use Rattle.laws.proofs.Choice.{no_yes}
 use Rattle.chars.specs.Blank.{is_blank}
 use Rattle.chars.specs.Encode.{bytes_of}
-use Rattle.numbers.specs.declared.Parsed.{Parsed}
-use Rattle.numbers.specs.declared.Parsed.TheVariants as parsed
-use Rattle.numbers.specs.Grammar.{parse_number}
+use Rattle.numbers.specs.declared.ParseError.TheVariants as parsed
+use Rattle.numbers.specs.Grammar.{parse_number, Parsed}
 use Rattle.items.specs.declared.Outcome.{Outcome}
 use Rattle.items.specs.declared.Outcome.TheVariants.{Token, Str, HereStr, Word, Run, Lined, Keyword, Character, Error, ErrorAt}
-use Rattle.items.specs.declared.CharValue.{CharValue}
-use Rattle.items.specs.declared.CharValue.TheVariants.{Scalar, Wrong, WrongAt}
+use Rattle.items.specs.declared.CharError.{CharError}
+use Rattle.items.specs.declared.CharError.TheVariants.{Wrong, WrongAt}
 use Rattle.items.specs.declared.Phase.{Phase}
 use Rattle.items.specs.Machine.{scan_of}
 use Rattle.items.specs.Readers.{SoFar, Read, got, read_item}
@@ -89,19 +89,19 @@ module _ (raw : List ℕ) (s e n at : ℕ) where
   unfolding word_means
   word_anywhere w = rw w
 
-  run_anywhere : (p : Parsed) → ((parse_number raw ≡ parsed.NoNumber) → eqb (word_kind raw) kind.Identifier ≡ false) → parse_number raw ≡ p → Anywhere Run
+  run_anywhere : (p : Parsed) → ((parse_number raw ≡ Err parsed.NoNumber) → eqb (word_kind raw) kind.Identifier ≡ false) → parse_number raw ≡ p → Anywhere Run
   unfolding run_means
-  run_anywhere (parsed.Is x) w q = rw q
-  run_anywhere parsed.NoNumber w q = rw q (word_anywhere (w q))
-  run_anywhere parsed.ZeroDenominator w q = rw q
+  run_anywhere (Ok x) w q = rw q
+  run_anywhere (Err parsed.NoNumber) w q = rw q (word_anywhere (w q))
+  run_anywhere (Err parsed.ZeroDenominator) w q = rw q
 
-  character_anywhere : (v : CharValue) → character_means v ≡ one (kind_in (character_means v)) (detail_in (character_means v)) none
-  character_anywhere (Scalar c) = refl
-  character_anywhere (Wrong k d) = refl
-  character_anywhere (WrongAt k d q) = refl
+  character_anywhere : (v : Result ℕ CharError) → character_means v ≡ one (kind_in (character_means v)) (detail_in (character_means v)) none
+  character_anywhere (Ok c) = refl
+  character_anywhere (Err (Wrong k d)) = refl
+  character_anywhere (Err (WrongAt k d q)) = refl
 
 -- a run that is no number is a word
-run_other : (raw : List ℕ) → Other Run raw → parse_number raw ≡ parsed.NoNumber → eqb (word_kind raw) kind.Identifier ≡ false
+run_other : (raw : List ℕ) → Other Run raw → parse_number raw ≡ Err parsed.NoNumber → eqb (word_kind raw) kind.Identifier ≡ false
 unfolding run_means
 run_other raw h q = word_is raw (λ s e. let z = rw q at (h s e) in (z.0, z.1.0))
 

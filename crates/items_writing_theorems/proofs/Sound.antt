@@ -1,4 +1,5 @@
 -- What is written for entries that may be written back: a text that reads as their shapes. By kind of entry first, then for a list of them.
+use Rattle.std.proofs.Common.{Err}
 use Prim.Native.Nat.{ℕ}
 use mathlib.Core.Path.{◌≡◌, refl, sym, ap, subst, ◌∙◌}
 use mathlib.Core.Bool.{Bool, true, false}
@@ -14,7 +15,7 @@ use Rattle.chars.specs.Blank.{is_blank}
 use Rattle.chars.specs.Encode.{is_scalar, utf8, bytes_of, spelled}
 use Rattle.chars.proofs.Bytes.{bytes_append}
 use Rattle.chars.proofs.Good.{Scalars}
-use Rattle.numbers.specs.declared.Parsed.TheVariants.{NoNumber}
+use Rattle.numbers.specs.declared.ParseError.TheVariants.{NoNumber}
 use Rattle.items.specs.declared.Quotes.TheVariants.{Double, Lines}
 use Rattle.items.specs.Kinds as kind
 use Rattle.items_r7rs.specs.Reading.{Spelling, bytes, ReadAs}
@@ -33,7 +34,7 @@ use Rattle.items_writing.proofs.Places.{scalars_append, Stands, bare_stands, spl
 -- characters that is read as such an item where it will stand, and is no first line. `last` says that nothing follows it
 pub data Sound (last : Bool) (e : Entry) : Shape → Type 0 where
   name : (v : List ℕ) → e.kind ≡ kind.Identifier → e.text ≡ bytes_of v → Scalars v → Sound last e (name_shape e.text)
-  string : (v : List ℕ) → e.kind ≡ kind.StringLiteral → e.text ≡ bytes_of v → Scalars v → Sound last e (shape kind.StringLiteral 0 (bytes e.text) NoNumber)
+  string : (v : List ℕ) → e.kind ≡ kind.StringLiteral → e.text ≡ bytes_of v → Scalars v → Sound last e (shape kind.StringLiteral 0 (bytes e.text) (Err NoNumber))
   extent : (c : ℕ) (t : List ℕ) (d : ℕ) (w : Spelling) → eqb e.kind kind.Identifier ≡ false → eqb e.kind kind.StringLiteral ≡ false
       → e.raw ≡ bytes_of (c ∷ t) → Scalars (c ∷ t) → begins (codes "#!") (c ∷ t ++ gap last) ≡ false
       → ((cs : List ℕ) → Follows last cs → ReadAs true (c ∷ t) cs e.kind d w)
@@ -50,11 +51,11 @@ pub record Wrote (first last : Bool) (bs : List ℕ) (ws : List Shape) : Type 0 
   pub no_line : first ≡ true → {cs : List ℕ} → Follows last cs → begins (codes "#!") (word ++ cs) ≡ false
   pub settles : {cs : List ℕ} → Rests last cs → Settles first (word ++ cs)
 
-name_number : (raw : List ℕ) → number_of kind.Identifier raw ≡ NoNumber
+name_number : (raw : List ℕ) → number_of kind.Identifier raw ≡ Err NoNumber
 unfolding number_of
 name_number raw = refl
 
-string_number : (raw : List ℕ) → number_of kind.StringLiteral raw ≡ NoNumber
+string_number : (raw : List ℕ) → number_of kind.StringLiteral raw ≡ Err NoNumber
 unfolding number_of
 string_number raw = refl
 
@@ -110,7 +111,7 @@ module _ (first last : Bool) (v : List ℕ) (h : Scalars v) where
   unfolding identifier
   name_wrote = by_bool (bare first last (bytes_of v)) (λ w. rw w (bare_wrote w)) (λ w. rw w (lined_wrote w))
 
-  string_wrote : Wrote first last (quoted Double (bytes_of v)) (shape kind.StringLiteral 0 (bytes (bytes_of v)) NoNumber ∷ [])
+  string_wrote : Wrote first last (quoted Double (bytes_of v)) (shape kind.StringLiteral 0 (bytes (bytes_of v)) (Err NoNumber) ∷ [])
   string_wrote = record {
     word = between Double (escape Double v);
     scalars = between_scalars Double v h;

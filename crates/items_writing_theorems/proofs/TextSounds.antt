@@ -1,4 +1,5 @@
 -- The items of a text, none of them an error or a comment, may be written back (`Sounds`): an extent at a time.
+use Rattle.std.proofs.Common.{Ok, Err, Result}
 use Prim.Native.Nat.{ℕ, zero, suc, ◌+◌, ◌<◌}
 use mathlib.Core.Path.{◌≡◌, refl, sym, ap, subst, ◌∙◌}
 use mathlib.Core.Bool.{Bool, true, false, not, ◌&&◌}
@@ -16,13 +17,12 @@ use Rattle.chars.specs.Encode.{utf8, width, bytes_of}
 use Rattle.chars.proofs.Bytes.{bytes_append}
 use Rattle.chars.proofs.Good.{Scalars}
 use Rattle.chars.proofs.Width.{width-utf8}
-use Rattle.numbers.specs.declared.Parsed.{Parsed}
-use Rattle.numbers.specs.declared.Parsed.TheVariants as parsed
-use Rattle.numbers.specs.Grammar.{parse_number}
+use Rattle.numbers.specs.declared.ParseError.TheVariants as parsed
+use Rattle.numbers.specs.Grammar.{parse_number, Parsed}
 use Rattle.items.specs.declared.Outcome.{Outcome}
 use Rattle.items.specs.declared.Outcome.TheVariants.{Token, Str, HereStr, Word, Run, Lined, Keyword, Character, Error, ErrorAt}
-use Rattle.items.specs.declared.CharValue.{CharValue}
-use Rattle.items.specs.declared.CharValue.TheVariants.{Scalar, Wrong, WrongAt}
+use Rattle.items.specs.declared.CharError.{CharError}
+use Rattle.items.specs.declared.CharError.TheVariants.{Wrong, WrongAt}
 use Rattle.items.specs.Readers.{Read, SoFar, first_is, read_item}
 use Rattle.items.specs.Meaning.{source, Meaning, means, meaning_of, word_kind, word_means, run_means, character_of, char_inside, character_means}
 use Rattle.items.specs.Items.{Item, Place, unset, range_after, item_of, items_of, extent_items, items_from, items_at, past_line, after_pound, items, kept, byte_count}
@@ -64,14 +64,14 @@ word_one s e raw = by_bool (eqb (word_kind raw) kind.Identifier)
 
 run_one : (p : Parsed) (s e : ℕ) (raw : List ℕ) → OneOrPair s e (run_means p s e raw)
 unfolding run_means
-run_one (parsed.Is p) s e raw = single _
-run_one parsed.NoNumber s e raw = word_one s e raw
-run_one parsed.ZeroDenominator s e raw = single _
+run_one (Ok p) s e raw = single _
+run_one (Err parsed.NoNumber) s e raw = word_one s e raw
+run_one (Err parsed.ZeroDenominator) s e raw = single _
 
-character_one : (v : CharValue) (s e : ℕ) → OneOrPair s e (character_means v)
-character_one (Scalar c) s e = single _
-character_one (Wrong n d) s e = single _
-character_one (WrongAt n d q) s e = single _
+character_one : (v : Result ℕ CharError) (s e : ℕ) → OneOrPair s e (character_means v)
+character_one (Ok c) s e = single _
+character_one (Err (Wrong n d)) s e = single _
+character_one (Err (WrongAt n d q)) s e = single _
 
 means_one : (o : Outcome) (s e : ℕ) (raw : List ℕ) → OneOrPair s e (meaning_of true o s e raw)
 means_one (Token k d) s e raw = single _

@@ -1,5 +1,6 @@
 -- The calls one after another, with their memories: read in report mode, write, read again, write again. `read` and `write` are the calls'
 -- definitions, `read_of` and `write_of`, which the contracts of `lexer::read` and `items_writing::write` equate with what they answer.
+use Rattle.std.proofs.Common.{None}
 use Prim.Native.Nat.{ℕ, ◌+◌, ◌*◌, ◌≤◌, ◌<◌}
 use mathlib.Core.Path.{◌≡◌, refl, sym, ap, subst, ◌∙◌}
 use mathlib.Core.Bool.{Bool}
@@ -13,7 +14,6 @@ use Rattle.laws.specs.Lent as lent
 use Rattle.laws.proofs.Choice.{if_is, impossible}
 use Rattle.refusal.specs.Refusals as refusal
 use Rattle.chars.specs.Utf8.{first_bad}
-use Rattle.chars.specs.declared.Utf8.TheVariants.{Good}
 use Rattle.items.specs.Items.{record_words, records, texts}
 use Rattle.items.specs.Whole as whole
 use Rattle.items.proofs.Fit.{records-length}
@@ -68,7 +68,7 @@ module _ (source : List ℕ) (skip : Bool) (recs text : List ℕ) (n m : ℕ) (r
       (written_back source skip (take past (drop (length ws) recs)) (drop (length (texts (items_read source skip))) text) out d.good r.is_clean
       (omega (arith, length-take past (drop (length ws) recs))))
 
-  source_good : first_bad source ≡ Good
+  source_good : first_bad source ≡ None
   source_good = d.good
 
 -- ---- then read again, and write again
@@ -91,7 +91,7 @@ module _ (source : List ℕ) (skip : Bool) (recs text : List ℕ) (n m : ℕ) (r
     pub bytes_are : bytes_written k ≡ w
     bytes_are = rw (said.bytes, said.count) (take-append_seam w (drop (length w) out))
 
-    good : first_bad source ≡ Good
+    good : first_bad source ≡ None
     good = source_good source skip recs text n m r
 
     -- it has no comments that could be left out

@@ -1,15 +1,14 @@
 -- What a text starts with at a place, and how two texts compare there: what a loop that walks both needs at each turn.
-use Prim.Native.Nat.{ℕ, suc, ◌+◌, ◌≤◌, ◌<◌}
+use Prim.Native.Nat.{ℕ, suc, ◌≤◌, ◌<◌}
 use mathlib.Core.Path.{◌≡◌, refl, ap}
-use mathlib.Core.Bool.{true, false}
+use mathlib.Core.Bool.{Bool, true, false, ◌&&◌}
 use mathlib.Core.List.{List, [], ◌∷◌}
-use lib.ListN.{length, get_or, drop, drop_of_length-le}
-use lib.Seq.{drop-cons}
+use lib.ListN.{length, get_or, take, drop}
+use lib.Pointwise.{pointwise}
 use lib.Dec.{eqb, leb}
 use native.Mathlib.Omega.{arith}
-use native.Mathlib.Numerals.{add-one}
 use native.Mathlib.Nat.{suc_inj}
-use borrow.Author.Tests.{eq-eqb, ne_eqb, eqb-true, leb-true, leb-false}
+use borrow.Author.Tests.{ne_eqb, eqb-true, leb-true, leb-false}
 use Rattle.laws.specs.Texts.{starts, begins, same}
 use Rattle.laws.proofs.Choice.{by_bool, and_no, impossible}
 use Rattle.laws.proofs.Places.{past, here}
@@ -30,22 +29,19 @@ module _ (b : ℕ) (t : List ℕ) (i : ℕ) where
       (λ e. let f = starts_past (leb-true _ _ e) in impossible cc)
       (λ e. leb-false _ _ e)
 
-module _ (p s : List ℕ) (i : ℕ) where
-  pub begins_short : i < length p → length s ≤ i → begins (drop i p) (drop i s) ≡ false
-  unfolding begins
-  begins_short h k = rw (drop-cons p i 0 h, drop_of_length-le s k)
+-- texts are compared element by element, as std does
+pub same_pairwise : (s t : List ℕ) → pointwise eqb s t ≡ same s t
+unfolding same
+same_pairwise [] [] = refl
+same_pairwise [] (y ∷ t) = refl
+same_pairwise (x ∷ s) [] = refl
+same_pairwise (x ∷ s) (y ∷ t) = ap (λ (r : Bool). eqb x y && r) (same_pairwise s t)
 
-  pub begins_differ : i < length p → i < length s → (get_or p i 0 ≡ get_or s i 0 → ⊥) → begins (drop i p) (drop i s) ≡ false
-  unfolding begins
-  begins_differ h k e = rw (drop-cons p i 0 h, drop-cons s i 0 k) (rw (ne_eqb _ _ e))
-
-  pub begins_more : i < length p → i < length s → get_or p i 0 ≡ get_or s i 0 → begins (drop i p) (drop i s) ≡ begins (drop (i + 1) p) (drop (i + 1) s)
-  unfolding begins
-  begins_more h k e = rw (drop-cons p i 0 h, drop-cons s i 0 k) (rw (eq-eqb _ _ e) (rw (add-one i)))
-
-  pub begins_all : length p ≤ i → begins (drop i p) (drop i s) ≡ true
-  unfolding begins
-  begins_all h = rw (drop_of_length-le p h)
+pub begins_pairwise : (p s : List ℕ) → pointwise eqb p (take (length p) s) ≡ begins p s
+unfolding begins
+begins_pairwise [] s = refl
+begins_pairwise (x ∷ p) [] = refl
+begins_pairwise (x ∷ p) (y ∷ s) = ap (λ (r : Bool). eqb x y && r) (begins_pairwise p s)
 
 -- texts of one length are the same if one begins the other
 pub same-begins : (s t : List ℕ) → length s ≡ length t → same s t ≡ begins s t

@@ -1,5 +1,6 @@
 -- Reading on gives the items of the definition, one after the other: turn by turn all of them, and where comments are skipped those that
 -- are kept. A spot's size falls with every turn, so that as many turns as the size are enough.
+use Rattle.std.proofs.Common.{None, Option, Some}
 use Rattle.chars.specs.Utf8.{chars}
 use Rattle.items.specs.Kinds as kind
 use Rattle.items.specs.Readers.{Read, read_item}
@@ -9,13 +10,12 @@ use Rattle.laws.proofs.Choice.{by_bool, impossible}
 use Rattle.lexer.specs.Reading.{Turn, gives, ends, turn_of, turn, start_from, size_of, next_at, and_then, all_from, all_items}
 use Rattle.lexer.specs.declared.Spot.{Spot}
 use Rattle.lexer.specs.declared.FirstChar.{FirstChar}
-use Rattle.lexer.specs.declared.FirstChar.TheVariants.{At, Nothing}
 use Rattle.lexer.proofs.Left.{left_here}
 use Rattle.lexer.proofs.Turns.{items_on, Started, started, none_started}
 use Rattle.lexer.proofs.Cases.{past, halfway, both, by_turn, turn_here}
 use Rattle.lexer.proofs.Moves.{Moved, turn_moved}
 use Rattle.lexer.proofs.Nexts.{next_at_skips, next_at_gives, next_at_ends}
-use Prim.Native.Nat.{ℕ, zero, suc, ◌+◌, ◌-◌, ◌<◌}
+use Prim.Native.Nat.{ℕ, zero, suc, ◌<◌}
 use mathlib.Core.Path.{◌≡◌, refl, sym, ap, ◌∙◌}
 use mathlib.Core.Bool.{Bool, true, false, ◌&&◌}
 use mathlib.Core.List.{List, [], ◌∷◌, ◌++◌}
@@ -105,11 +105,11 @@ module _ (s : List ℕ) where
       nothing zero h e f = absurd (omega arith)
       nothing (suc m) h e f = turns_end m p e ∙ sym f
 
-      go : (x : FirstChar) → start_from p.at (chars (drop p.at s)) ≡ x
+      go : (x : Option FirstChar) → start_from p.at (chars (drop p.at s)) ≡ x
           → ((m : ℕ) (p : Spot) → p.second ≡ false → size_of s p < k → size_of s p < m → turns_from m p ≡ items_after p)
           → turns_from m p ≡ items_after p
-      go (At c a n) f rec = one_extent k rec p b h c a n (started s (chars (drop p.at s)) p.at refl c a n f) m g
-      go Nothing f rec =
+      go (Some x) f rec = one_extent k rec p b h x.code x.at x.past (started s (chars (drop p.at s)) p.at refl x.code x.at x.past f) m g
+      go None f rec =
           let z = none_started (chars (drop p.at s)) p.at f in
           nothing m g (z.0 p) (z.1 p.report (place_in p.last))
 

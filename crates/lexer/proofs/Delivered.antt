@@ -1,17 +1,17 @@
 -- What is delivered, by the tests of the code; and the reader's replies.
+use Rattle.std.proofs.Common.{None}
 use Rattle.refusal.specs.Refusals as refusal
 use Rattle.laws.specs.Lent.{written}
 use Rattle.items.specs.Items.{Item, depth_after, record_words, words_of, memory_of, records, texts}
 use Rattle.items.specs.Whole.{call, served, refused, limit, deliver}
 use Rattle.items.specs.declared.Nine.{Nine}
 use Rattle.meaning.specs.Records.{packed}
-use Rattle.lexer.specs.Reading.{Turn, gives, ends, next_at, found_of}
+use Rattle.lexer.specs.Reading.{Turn, gives, ends, next_at, found_of, one_found}
 use Rattle.lexer.specs.Answers.{item, finished, refuses, replied, position_at, give_of, next_of}
 use Rattle.lexer.specs.Inner.{needed_of, bytes_for, free_after, deep_at, Few}
 use Rattle.lexer.specs.declared.Spot.{Spot}
 use Rattle.lexer.specs.declared.Position.{Position}
 use Rattle.lexer.specs.declared.Needed.{Needed}
-use Rattle.lexer.specs.declared.Found.TheVariants.{One, End}
 use Rattle.lexer.proofs.Moves.{Whole}
 use Rattle.lexer.proofs.Nexts.{found_gives, found_ends, next_moved}
 use Rattle.lexer.proofs.Memory.{record_packed, free_packed, bytes_packed}
@@ -74,11 +74,11 @@ module _ (s : List ℕ) (p : Position) (text : List ℕ) where
     unfolding next_of
     reply_is t e = rw (le-ltb limit (length s) short) (ap (λ (x : Turn). give_of p.depth x text) e)
 
-    pub reply_end : End ≡ found_of 0 (next_at s p.spot) → replied finished text ≡ next_of s p text
+    pub reply_end : None ≡ found_of 0 (next_at s p.spot) → replied finished text ≡ next_of s p text
     unfolding give_of
     reply_end e = sym (reply_is ends (found_ends 0 (next_at s p.spot) e))
 
-    module _ (r : Nine) (q : Spot) (e : One r q ≡ found_of 0 (next_at s p.spot)) where
+    module _ (r : Nine) (q : Spot) (e : one_found r q ≡ found_of 0 (next_at s p.spot)) where
       abbrev i : Item
       i = (found_gives 0 (next_at s p.spot) r q e).0
 

@@ -1,5 +1,6 @@
 -- What the code makes of an extent is what the definition gives: its one meaning or two are the definition's, and the nine words built of
 -- a meaning are those of its item.
+use Rattle.std.proofs.Common.{Option}
 use Rattle.laws.proofs.Choice.{impossible}
 use Rattle.items.specs.Readers.{so_far}
 use Rattle.items.specs.Meaning.{Text, none, source, decoded, Meaning, means, meaning_of}
@@ -11,11 +12,10 @@ use Rattle.meaning.specs.declared.Means.{Means}
 use Rattle.meaning.specs.Meant.{sized, sized_all}
 use Rattle.meaning.specs.Places.{place_in, range_of}
 use Rattle.meaning.specs.Records.{packed, nine_for, TextFits}
-use Rattle.lexer.specs.Reading.{Turn, gives, moved, pick, turn_of, found_of}
+use Rattle.lexer.specs.Reading.{Turn, gives, moved, pick, turn_of, found_of, one_found}
 use Rattle.lexer.specs.Inner.{TextsFit}
 use Rattle.lexer.specs.declared.Spot.{Spot}
 use Rattle.lexer.specs.declared.Found.{Found}
-use Rattle.lexer.specs.declared.Found.TheVariants.{One}
 use Prim.Native.Nat.{ℕ, ◌+◌}
 use mathlib.Core.Path.{◌≡◌, refl, sym, ap, ◌∙◌}
 use mathlib.Core.Bool.{Bool, true, false}
@@ -64,15 +64,15 @@ module _ (free : ℕ) (p : Spot) (start : ℕ) (what : Outcome) (raw : List ℕ)
   extent = range_of (range start end)
 
   -- what the code makes of a meaning
-  abbrev made : Means → Range → Spot → Found
-  made m last q = One (nine_for free m extent (range_of (place_of p.report m.kind (place_in last) (place_in extent)))) q
+  abbrev made : Means → Range → Spot → Option Found
+  made m last q = one_found (nine_for free m extent (range_of (place_of p.report m.kind (place_in last) (place_in extent)))) q
 
   made_is : (x : Meaning) (m : Means) (last : Range) (q : Spot) → sized x ≡ m → last ≡ range_of shown
-      → made m last q ≡ One (packed free (item_of p.report shown start end x)) q
+      → made m last q ≡ one_found (packed free (item_of p.report shown start end x)) q
   made_is x m last q g l =
       ap (λ (y : Means). made y last q) (sym g)
       ∙ ap (λ (y : Range). made (sized x) y q) l
-      ∙ ap (λ (y : Nine). One y q) (packed_is free p.report shown start end x.kind x.detail x.text)
+      ∙ ap (λ (y : Nine). one_found y q) (packed_is free p.report shown start end x.kind x.detail x.text)
 
   abbrev item : Meaning → Item
   item x = item_of p.report shown start end x
@@ -84,13 +84,13 @@ module _ (free : ℕ) (p : Spot) (start : ℕ) (what : Outcome) (raw : List ℕ)
   unfolding extent_items
   turn_of_lem l f = ap picked f
 
-  module _ (set last : Range) (g : set ≡ range_of shown) (l : last ≡ range_of after) (r : Found) (q : Spot) where
+  module _ (set last : Range) (g : set ≡ range_of shown) (l : last ≡ range_of after) (r : Option Found) (q : Spot) where
     pub found_one : (m : Means) → m ∷ [] ≡ sized_all (meaning_of p.report what start end raw) → r ≡ made m set q → q ≡ moved p end (place_in last) false
         → r ≡ found_of free (turn_of p start what (so_far raw end))
     found_one m e h u =
         let x = one_meant (meaning_of p.report what start end raw) m e in
         let v : q ≡ moved p end after false = u ∙ ap (λ (y : Range). moved p end (place_in y) false) l in
-        h ∙ made_is x.0 m set q x.1.1 g ∙ ap (One (packed free (item x.0))) v ∙ sym (ap (found_of free) (turn_of_lem (x.0 ∷ []) x.1.0))
+        h ∙ made_is x.0 m set q x.1.1 g ∙ ap (one_found (packed free (item x.0))) v ∙ sym (ap (found_of free) (turn_of_lem (x.0 ∷ []) x.1.0))
 
     module _ (m n : Means) (e : m ∷ n ∷ [] ≡ sized_all (meaning_of p.report what start end raw)) where
       pub found_second : p.second ≡ true → r ≡ made n set q → q ≡ moved p end (place_in last) false → r ≡ found_of free (turn_of p start what (so_far raw end))
@@ -98,12 +98,12 @@ module _ (free : ℕ) (p : Spot) (start : ℕ) (what : Outcome) (raw : List ℕ)
           let x = two_meant (meaning_of p.report what start end raw) m n e in
           let v : q ≡ moved p end after false = u ∙ ap (λ (y : Range). moved p end (place_in y) false) l in
           let t : picked (x.0 ∷ x.1.0 ∷ []) ≡ gives (item x.1.0) (moved p end after false) = rw b in
-          h ∙ made_is x.1.0 n set q x.1.1.1.1 g ∙ ap (One (packed free (item x.1.0))) v
+          h ∙ made_is x.1.0 n set q x.1.1.1.1 g ∙ ap (one_found (packed free (item x.1.0))) v
           ∙ sym (ap (found_of free) (turn_of_lem (x.0 ∷ x.1.0 ∷ []) x.1.1.0 ∙ t))
 
       pub found_first : p.second ≡ false → r ≡ made m set q → q ≡ moved p start (place_in p.last) true → r ≡ found_of free (turn_of p start what (so_far raw end))
       found_first b h u =
           let x = two_meant (meaning_of p.report what start end raw) m n e in
           let t : picked (x.0 ∷ x.1.0 ∷ []) ≡ gives (item x.0) (moved p start (place_in p.last) true) = rw b in
-          h ∙ made_is x.0 m set q x.1.1.1.0 g ∙ ap (One (packed free (item x.0))) u
+          h ∙ made_is x.0 m set q x.1.1.1.0 g ∙ ap (one_found (packed free (item x.0))) u
           ∙ sym (ap (found_of free) (turn_of_lem (x.0 ∷ x.1.0 ∷ []) x.1.1.0 ∙ t))

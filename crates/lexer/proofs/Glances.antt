@@ -1,4 +1,5 @@
 -- An item that one look tells is the next item: the scan is the definition's reader there, and its one meaning gives its nine words.
+use Rattle.std.proofs.Common.{Option}
 use Rattle.chars.specs.Utf8.{front, placed, chars}
 use Rattle.chars.specs.declared.Decoded.TheVariants as decoded
 use Rattle.chars.specs.Blank.{is_blank}
@@ -25,14 +26,12 @@ use Rattle.meaning.specs.Places.{place_in, range_of}
 use Rattle.meaning.specs.Records.{nine_for, TextFits}
 use Rattle.lexer.specs.Inner as inner
 use Rattle.lexer.specs.Inner.{bytes_for, free_after}
-use Rattle.lexer.specs.Reading.{moved, turn, turn_at, next_at, start_from, found_of}
+use Rattle.lexer.specs.Reading.{moved, turn, turn_at, next_at, start_from, found_of, first_at, one_found}
 use Rattle.lexer.specs.Glance.{Begins, Glanced}
 use Rattle.items_telling.specs.Tells.{Undecoded}
 use Rattle.items_telling.proofs.Firsts.{past_first}
 use Rattle.lexer.specs.declared.Spot.{Spot}
-use Rattle.lexer.specs.declared.FirstChar.TheVariants.{At}
 use Rattle.lexer.specs.declared.Found.{Found}
-use Rattle.lexer.specs.declared.Found.TheVariants.{One}
 use Rattle.lexer.proofs.CharacterAt.{char_found}
 use Rattle.lexer.proofs.Turns.{Started, started, turn_started}
 use Rattle.lexer.proofs.Scans.{end_inside, scan_fits, found_is}
@@ -64,13 +63,13 @@ begins_past s at n w solid =
     }
 
 -- and reading on there starts with it
-pub start_first : (s : List ℕ) (a c n : ℕ) → inner.First s a c n → start_from a (chars (drop a s)) ≡ At c a n
+pub start_first : (s : List ℕ) (a c n : ℕ) → inner.First s a c n → start_from a (chars (drop a s)) ≡ first_at c a n
 unfolding start_from
-start_first s a c n F = ap (start_from a) F.first ∙ rw F.solid (ap (At c a) (sym F.on))
+start_first s a c n F = ap (start_from a) F.first ∙ rw F.solid (ap (first_at c a) (sym F.on))
 
 -- an item with the next item's place and its meaning
-pub next_found : (s : List ℕ) (free : ℕ) (p : Spot) (r : Nine) (q : Spot) → One r q ≡ found_of free (turn s p)
-    → (p.skip && eqb r.kind kind.Comment) ≡ false → One r q ≡ found_of free (next_at s p)
+pub next_found : (s : List ℕ) (free : ℕ) (p : Spot) (r : Nine) (q : Spot) → one_found r q ≡ found_of free (turn s p)
+    → (p.skip && eqb r.kind kind.Comment) ≡ false → one_found r q ≡ found_of free (next_at s p)
 next_found s free p r q e b =
     let g = found_gives free (turn s p) r q e in
     e ∙ ap (found_of free) (g.1.0 ∙ sym (next_at_gives s p q g.0 g.1.0 (ap (λ (x : Nine). p.skip && eqb x.kind kind.Comment) (sym g.1.1) ∙ b)))
@@ -103,8 +102,8 @@ module _ (s : List ℕ) (report skip : Bool) (a e : ℕ) (m : Means) (G : Glance
   abbrev pub told_place : Spot → Range
   told_place p = range_of (place_of p.report m.kind (standing p.report (place_in p.last)) (range a e))
 
-  abbrev made : ℕ → Spot → Found
-  made free p = One (nine_for free m extent (told_place p)) (moved p e (place_in p.last) false)
+  abbrev made : ℕ → Spot → Option Found
+  made free p = one_found (nine_for free m extent (told_place p)) (moved p e (place_in p.last) false)
 
   -- the item sets no range
   quiet_in : (p : Spot) → p.report ≡ report → (last : Place) (end : ℕ) → range_after p.report last a G.what (so_far (part s a e) end) ≡ last

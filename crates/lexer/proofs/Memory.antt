@@ -8,7 +8,7 @@ use Rattle.lexer.specs.Inner.{bytes_for, free_after, deep_at}
 use Rattle.lexer.proofs.Left.{part}
 use Rattle.lexer.proofs.Spelled.{SpelledText}
 use Rattle.lexer.proofs.Moves.{Whole}
-use Prim.Native.Nat.{ℕ, ◌+◌, ◌-◌}
+use Prim.Native.Nat.{ℕ, ◌+◌}
 use native.Mathlib.Nat.{add-zero}
 use native.Mathlib.Omega.{arith}
 use mathlib.Core.Path.{◌≡◌, refl, sym, ap, ◌∙◌}

@@ -1,5 +1,6 @@
 -- A turn goes forward: the spot after it is smaller, lies in the source, and is as far past the one before as the item's decoded text
 -- is long. A turn's item has its extent in the source.
+use Rattle.std.proofs.Common.{None, Option, Some}
 use Rattle.chars.specs.Utf8.{chars}
 use Rattle.items.specs.Readers.{Read, SoFar, read_item}
 use Rattle.items.specs.Meaning.{Text, none, source, decoded, Meaning, meaning_of}
@@ -14,13 +15,12 @@ use Rattle.laws.proofs.Choice.{impossible}
 use Rattle.lexer.specs.Reading.{gives, ends, turn_of, turn, start_from, size_of}
 use Rattle.lexer.specs.declared.Spot.{Spot}
 use Rattle.lexer.specs.declared.FirstChar.{FirstChar}
-use Rattle.lexer.specs.declared.FirstChar.TheVariants.{At, Nothing}
 use Rattle.lexer.proofs.Left.{ReadTo, left_here, part}
 use Rattle.lexer.proofs.Turns.{Started, started, none_started}
 use Rattle.lexer.proofs.Extents.{Any, extent_made}
 use Rattle.lexer.proofs.Cases.{past, halfway, both, by_turn}
 use Rattle.lexer.proofs.Spelled.{SpelledText, Spelled, spelled, front_bare}
-use Prim.Native.Nat.{ℕ, ◌+◌, ◌-◌, ◌≤◌, ◌<◌}
+use Prim.Native.Nat.{ℕ, ◌+◌, ◌≤◌, ◌<◌}
 use mathlib.Core.Path.{◌≡◌, refl, sym, ap, ◌∙◌, subst}
 use mathlib.Core.Bool.{Bool, false}
 use mathlib.Core.List.{List, [], ◌∷◌}
@@ -142,10 +142,10 @@ pub turn_moved : (s : List ℕ) (p : Spot) (i : Item) (q : Spot) → turn s p �
 unfolding turn
 turn_moved s p i q e = go (start_from p.at (chars (drop p.at s))) refl
   where
-    go : (x : FirstChar) → start_from p.at (chars (drop p.at s)) ≡ x → Moved s p i q
-    go (At c a n) f =
-        let S : Started s p.at (chars (drop p.at s)) c a n = started s (chars (drop p.at s)) p.at refl c a n f in
-        given s p c a n S i q (sym (S.turn p) ∙ e)
-    go Nothing f =
+    go : (x : Option FirstChar) → start_from p.at (chars (drop p.at s)) ≡ x → Moved s p i q
+    go (Some x) f =
+        let S : Started s p.at (chars (drop p.at s)) x.code x.at x.past = started s (chars (drop p.at s)) p.at refl x.code x.at x.past f in
+        given s p x.code x.at x.past S i q (sym (S.turn p) ∙ e)
+    go None f =
         let z : gives i q ≡ ends = sym e ∙ (none_started (chars (drop p.at s)) p.at f).0 p in
         impossible cc

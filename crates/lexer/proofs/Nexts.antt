@@ -1,12 +1,13 @@
 -- The next item that is not skipped, a turn at a time.
+use Rattle.std.proofs.Common.{None, Some}
 use Rattle.items.specs.Kinds as kind
 use Rattle.items.specs.Items.{Item}
 use Rattle.items.specs.declared.Nine.{Nine}
 use Rattle.meaning.specs.Records.{packed}
 use Rattle.laws.proofs.Choice.{by_bool, impossible}
-use Rattle.lexer.specs.Reading.{Turn, gives, ends, turn, size_of, next_from, next_at, found_of}
+use Rattle.lexer.specs.Reading.{Turn, gives, ends, turn, size_of, next_from, next_at, found_of, one_found}
 use Rattle.lexer.specs.declared.Spot.{Spot}
-use Rattle.lexer.specs.declared.Found.TheVariants.{One, End}
+use Rattle.lexer.specs.declared.Found.{Found}
 use Rattle.lexer.proofs.Moves.{Moved, turn_moved}
 use Prim.Native.Nat.{ℕ, zero, suc, ◌≤◌, ◌<◌}
 use mathlib.Core.Path.{◌≡◌, refl, sym, ap, ◌∙◌}
@@ -15,12 +16,17 @@ use mathlib.Core.List.{List}
 use lib.Dec.{eqb}
 use native.Mathlib.Omega.{arith}
 
+same_found : (x y : Found) → Some x ≡ Some y → x ≡ y
+same_found x y e = cc
+
 -- what was found is an item of the definition, or the end
-pub found_gives : (free : ℕ) (t : Turn) (r : Nine) (q : Spot) → One r q ≡ found_of free t → (i : Item) × ((t ≡ gives i q) × (r ≡ packed free i))
-found_gives free (gives i u) r q e = let a : r ≡ packed free i = cc in let b : u ≡ q = cc in (i, (ap (gives i) b, a))
+pub found_gives : (free : ℕ) (t : Turn) (r : Nine) (q : Spot) → one_found r q ≡ found_of free t → (i : Item) × ((t ≡ gives i q) × (r ≡ packed free i))
+found_gives free (gives i u) r q e =
+    let x = same_found _ _ e in
+    (i, (ap (λ (y : Found). gives i y.after) (sym x), ap (λ (y : Found). y.nine) x))
 found_gives free ends r q e = impossible cc
 
-pub found_ends : (free : ℕ) (t : Turn) → End ≡ found_of free t → t ≡ ends
+pub found_ends : (free : ℕ) (t : Turn) → None ≡ found_of free t → t ≡ ends
 found_ends free (gives i u) e = impossible cc
 found_ends free ends e = refl
 
@@ -115,14 +121,14 @@ module _ (s : List ℕ) where
   next_moved p q i e = from_moved (suc (size_of s p)) p q i e
 
   module _ (free : ℕ) (start p : Spot) (k : Seeking s free start p) where
-    pub seeks_end : turn s p ≡ ends → End ≡ found_of free (next_at s start)
+    pub seeks_end : turn s p ≡ ends → None ≡ found_of free (next_at s start)
     seeks_end e = sym (ap (found_of free) (k.same ∙ go k.left k.enough))
       where
         go : (n : ℕ) → size_of s p < n → next_from n s p ≡ ends
         go zero h = absurd (omega arith)
         go (suc n) h = next_ends n p e
 
-    module _ (r : Nine) (q : Spot) (e : One r q ≡ found_of free (turn s p)) where
+    module _ (r : Nine) (q : Spot) (e : one_found r q ≡ found_of free (turn s p)) where
       abbrev i : Item
       i = (found_gives free (turn s p) r q e).0
 
@@ -135,7 +141,7 @@ module _ (s : List ℕ) where
       pub seeks_moved : Moved s p i q
       seeks_moved = turn_moved s p i q gave
 
-      pub seeks_given : (p.skip && eqb r.kind kind.Comment) ≡ false → One r q ≡ found_of free (next_at s start)
+      pub seeks_given : (p.skip && eqb r.kind kind.Comment) ≡ false → one_found r q ≡ found_of free (next_at s start)
       seeks_given b = e ∙ ap (found_of free) (gave ∙ sym (k.same ∙ go k.left k.enough))
         where
           go : (n : ℕ) → size_of s p < n → next_from n s p ≡ gives i q

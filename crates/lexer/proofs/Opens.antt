@@ -1,9 +1,8 @@
 -- Where reading starts, the items of the definition start; and the refusals of opening are those of the whole-text call.
+use Rattle.std.proofs.Common.{None, Option, Some, Err}
 use Rattle.refusal.specs.Refusals as refusal
 use Rattle.chars.specs.Utf8.{chars, first_bad, front, placed}
 use Rattle.chars.specs.Encode.{width}
-use Rattle.chars.specs.declared.Utf8.{Utf8}
-use Rattle.chars.specs.declared.Utf8.TheVariants.{Good, Bad}
 use Rattle.chars.specs.declared.Decoded.{Decoded}
 use Rattle.chars.specs.declared.Decoded.TheVariants as decoded
 use Rattle.chars.proofs.Chars.{CharAt, nothing_at}
@@ -14,7 +13,10 @@ use Rattle.items.specs.Whole.{call, limit, is_mode, in_report, items_in, deliver
 use Rattle.items.specs.Whole as whole
 use Rattle.items.proofs.Order.{items_count, items_memory}
 use Rattle.items.proofs.Skipped.{kept_count, kept_memory}
-use Rattle.lexer.specs.Opening.{line_end, after_hash, start_of, opening, opened, refused, if_utf8, open_of}
+use Rattle.lexer.specs.Opening.{line_end, after_hash, start_of, opening, opened, refused, opening_of, if_utf8, open_of}
+use Rattle.lexer.specs.Answers.{answer_of, read_error}
+use Rattle.lexer.specs.declared.OpenError.{OpenError}
+use Rattle.lexer.specs.declared.OpenError.TheVariants.{NoMode, TooLong, NotUtf8}
 use Rattle.lexer.specs.Reading.{all_items}
 use Rattle.lexer.specs.Inner.{Few}
 use Rattle.lexer.specs.declared.Position.{Position}
@@ -135,7 +137,7 @@ few_items s report skip =
 module _ (s : List ℕ) (mode : ℕ) (skip : Bool) (recs text : List ℕ) where
   -- the text is good, and its items are delivered
   abbrev Delivers : Position → Type 0
-  Delivers p = (length s ≤ limit) × Few s (all_items s p.spot) × (first_bad s ≡ Good) × (read_of s mode skip recs text ≡ deliver (all_items s p.spot) recs text)
+  Delivers p = (length s ≤ limit) × Few s (all_items s p.spot) × (first_bad s ≡ None) × (read_of s mode skip recs text ≡ deliver (all_items s p.spot) recs text)
 
   pub read_opened : (p : Position) → opened p ≡ open_of s mode skip → Delivers p
   unfolding open_of read_of
@@ -145,15 +147,15 @@ module _ (s : List ℕ) (mode : ℕ) (skip : Bool) (recs text : List ℕ) where
       (λ l. good m l (first_bad s) refl (rw (m, l) at e)))
       (λ m. let z : opened p ≡ refused refusal.no_such_mode mode = rw m at e in impossible cc)
     where
-      good : is_mode mode ≡ true → ltb limit (length s) ≡ false → (u : Utf8) → first_bad s ≡ u → opened p ≡ if_utf8 (first_bad s) (opening s (in_report mode) skip)
+      good : is_mode mode ≡ true → ltb limit (length s) ≡ false → (u : Option ℕ) → first_bad s ≡ u → opened p ≡ if_utf8 (first_bad s) (opening s (in_report mode) skip)
           → Delivers p
-      good m l Good f h =
-          let z : opened p ≡ opened (opening s (in_report mode) skip) = h ∙ ap (λ (u : Utf8). if_utf8 u (opening s (in_report mode) skip)) f in
+      good m l None f h =
+          let z : opened p ≡ opened (opening s (in_report mode) skip) = h ∙ ap (λ (u : Option ℕ). if_utf8 u (opening s (in_report mode) skip)) f in
           let q : p ≡ opening s (in_report mode) skip = cc in
           let a : all_items s p.spot ≡ items_in s mode skip = ap (λ (x : Position). all_items s x.spot) q ∙ reads_all s (in_report mode) skip in
           (ltb-false limit (length s) l, subst (Few s) (sym a) (few_items s (in_report mode) skip), f, rw (m, l, f) (ap (λ (i : List Item). deliver i recs text) (sym a)))
-      good m l (Bad at) f h =
-          let z : opened p ≡ refused refusal.not_utf8 at = h ∙ ap (λ (u : Utf8). if_utf8 u (opening s (in_report mode) skip)) f in
+      good m l (Some at) f h =
+          let z : opened p ≡ refused refusal.not_utf8 at = h ∙ ap (λ (u : Option ℕ). if_utf8 u (opening s (in_report mode) skip)) f in
           impossible cc
 
   pub read_refused : (n v : ℕ) → refused n v ≡ open_of s mode skip → call (whole.refused n v 0) recs text ≡ read_of s mode skip recs text
@@ -167,9 +169,15 @@ module _ (s : List ℕ) (mode : ℕ) (skip : Bool) (recs text : List ℕ) where
       same : (a b : ℕ) → refused n v ≡ refused a b → call (whole.refused n v 0) recs text ≡ call (whole.refused a b 0) recs text
       same a b h = let x : n ≡ a = cc in let y : v ≡ b = cc in ap (λ (k : ℕ). call (whole.refused k v 0) recs text) x ∙ ap (λ (k : ℕ). call (whole.refused a k 0) recs text) y
 
-      bad : (u : Utf8) → refused n v ≡ if_utf8 u (opening s (in_report mode) skip) → call (whole.refused n v 0) recs text ≡ if_good u (deliver (items_in s mode skip) recs text) recs text
-      bad Good h = impossible cc
-      bad (Bad at) h = same refusal.not_utf8 at h
+      bad : (u : Option ℕ) → refused n v ≡ if_utf8 u (opening s (in_report mode) skip) → call (whole.refused n v 0) recs text ≡ if_good u (deliver (items_in s mode skip) recs text) recs text
+      bad None h = impossible cc
+      bad (Some at) h = same refusal.not_utf8 at h
+
+  -- the error that the call makes of the one that opening gave
+  pub read_fails : (e : OpenError) → opening_of (Err e) ≡ open_of s mode skip → call (answer_of (Err (read_error e))) recs text ≡ read_of s mode skip recs text
+  read_fails (NoMode m) h = read_refused refusal.no_such_mode m h
+  read_fails TooLong h = read_refused refusal.over_long limit h
+  read_fails (NotUtf8 at) h = read_refused refusal.not_utf8 at h
 
 -- ---- opening, by the tests of the code
 
@@ -183,6 +191,6 @@ module _ (s : List ℕ) (mode : ℕ) (skip : Bool) where
     unfolding open_of
     open_long h = rw (lt-ltb mode 2 (omega arith), lt-ltb limit (length s) h)
 
-    pub open_utf8 : length s ≤ limit → (u : Utf8) → u ≡ first_bad s → if_utf8 u (opening s (in_report mode) skip) ≡ open_of s mode skip
+    pub open_utf8 : length s ≤ limit → (u : Option ℕ) → u ≡ first_bad s → if_utf8 u (opening s (in_report mode) skip) ≡ open_of s mode skip
     unfolding open_of
-    open_utf8 h u e = rw (lt-ltb mode 2 (omega arith), le-ltb limit (length s) h) (ap (λ (x : Utf8). if_utf8 x (opening s (in_report mode) skip)) e)
+    open_utf8 h u e = rw (lt-ltb mode 2 (omega arith), le-ltb limit (length s) h) (ap (λ (x : Option ℕ). if_utf8 x (opening s (in_report mode) skip)) e)

@@ -1,10 +1,11 @@
 -- An item in quotes without an escape ends where they are closed, and its text is what stands between them: a string, or an identifier where
 -- the item begins with its quote. One law serves both.
+use Rattle.std.proofs.Common.{None, Option, Some}
 use Rattle.laws.specs.Quoted.{code}
 use Rattle.laws.proofs.Places.{here}
 use Rattle.chars.specs.Blank.{is_blank}
 use Rattle.items.specs.Classes.{delim_of, starts_run, first_of}
-use Rattle.items.specs.Readers.{SoFar, closed, lined_of, first_is, last_is}
+use Rattle.items.specs.Readers.{SoFar, closed, lined_of}
 use Rattle.items.specs.Meaning.{escaped}
 use Rattle.items.specs.Items.{Place, range_after}
 use Rattle.items.specs.Whole.{limit}
@@ -14,8 +15,6 @@ use Rattle.items.specs.declared.Quotes.{Quotes}
 use Rattle.items.specs.declared.Quotes.TheVariants.{Double, Lines}
 use Rattle.steps.specs.Scan.{part, answer}
 use Rattle.steps.specs.Ended.{ClosesAt, Closes}
-use Rattle.steps.specs.declared.Ending.{Ending}
-use Rattle.steps.specs.declared.Ending.TheVariants as ending
 use Rattle.steps.proofs.Ended.{delim_other}
 use Rattle.meaning.specs.Meant.{means}
 use Rattle.meaning.specs.declared.Means.{Means}
@@ -28,10 +27,9 @@ use Rattle.lexer.proofs.Glances.{begins}
 use Rattle.lexer.proofs.Tells.{part_byte, first_byte, spans, ended_told}
 use Prim.Native.Nat.{ℕ, suc, ◌+◌, ◌-◌, ◌≤◌, ◌<◌}
 use mathlib.Core.Path.{◌≡◌, refl, sym, ap, ◌∙◌}
-use mathlib.Core.Bool.{Bool, true, false}
-use mathlib.Core.List.{List, [], ◌∷◌}
-use lib.Dec.{eqb, leb}
-use lib.ListN.{length, get_or, take, drop}
+use mathlib.Core.Bool.{Bool, false}
+use mathlib.Core.List.{List, ◌∷◌}
+use lib.ListN.{length, get_or, take}
 use native.Mathlib.Omega.{arith}
 use borrow.Author.Tests.{eq-eqb, ne_eqb, lt-leb}
 
@@ -95,7 +93,7 @@ module _ (s : List ℕ) (at e : ℕ) (k : Quotes) (short : length s ≤ limit) (
       ended_told s report at (at + 1) e (quoted_as k) (ph.Quoted k) B (ap (λ (o : Outcome). record { what = o; end = e }) (sym is_whole) ∙ scans report) short
       (quotes_quiet k report at) (Item quoted at e) (quoted_tells at e (part s at e) (sym long) k no_escape) skip
 
-pub quoted_skims : (s : List ℕ) (at : ℕ) (k : Quotes) → length s ≤ limit → at < length s → get_or s at 0 ≡ delim_of k → (r : Ending) → Closes s k (at + 1) r
+pub quoted_skims : (s : List ℕ) (at : ℕ) (k : Quotes) → length s ≤ limit → at < length s → get_or s at 0 ≡ delim_of k → (r : Option ℕ) → Closes s k (at + 1) r
     → (report skip : Bool) → SkimAt s report skip at r
-quoted_skims s at k short some opens ending.Unknown C report skip = tt
-quoted_skims s at k short some opens (ending.At e) C report skip = (quoted s at e k short some opens C, (quoted_told s at e k short some opens C report skip).2)
+quoted_skims s at k short some opens None C report skip = tt
+quoted_skims s at k short some opens (Some e) C report skip = (quoted s at e k short some opens C, (quoted_told s at e k short some opens C report skip).2)

@@ -1,13 +1,13 @@
 -- Reading on: the items that are done, and those from a spot on. It serves the counting loop and the writing loop.
+use Rattle.std.proofs.Common.{None}
 use Rattle.items.specs.Items.{Item, memory_of, texts}
 use Rattle.items.specs.declared.Nine.{Nine}
 use Rattle.meaning.specs.Records.{packed}
-use Rattle.lexer.specs.Reading.{gives, size_of, next_at, all_from, all_items, found_of}
+use Rattle.lexer.specs.Reading.{gives, size_of, next_at, all_from, all_items, found_of, one_found}
 use Rattle.lexer.specs.Inner.{free_after, needed_of}
 use Rattle.lexer.specs.Writing.{Going}
 use Rattle.lexer.specs.declared.Spot.{Spot}
 use Rattle.lexer.specs.declared.Needed.{Needed}
-use Rattle.lexer.specs.declared.Found.TheVariants.{One, End}
 use Rattle.lexer.proofs.AllItems.{all_gives, all_ends, next_all}
 use Rattle.lexer.proofs.Moves.{Moved}
 use Rattle.lexer.proofs.Nexts.{found_gives, found_ends, next_moved}
@@ -28,7 +28,7 @@ abbrev needs : ℕ → ℕ → Needed
 needs n b = record { items = n; text = b }
 
 module _ (s : List ℕ) (start p : Spot) (free : ℕ) (done : List Item) (g : Going s start p free done) where
-  pub going_end : End ≡ found_of free (next_at s p) → all_items s start ≡ done
+  pub going_end : None ≡ found_of free (next_at s p) → all_items s start ≡ done
   going_end e = go g.left refl
     where
       go : (n : ℕ) → g.left ≡ n → all_items s start ≡ done
@@ -37,7 +37,7 @@ module _ (s : List ℕ) (start p : Spot) (free : ℕ) (done : List Item) (g : Go
           g.items ∙ ap (λ (m : ℕ). done ++ all_from m s p) z
           ∙ ap (λ (l : List Item). done ++ l) (all_ends s n p (found_ends free (next_at s p) e)) ∙ append-nil done
 
-  pub counted : (n : ℕ) → length done ≡ n → End ≡ found_of free (next_at s p) → needs n free ≡ needed_of (all_items s start)
+  pub counted : (n : ℕ) → length done ≡ n → None ≡ found_of free (next_at s p) → needs n free ≡ needed_of (all_items s start)
   counted n h e =
       let a : all_items s start ≡ done = going_end e in
       ap (λ (x : ℕ). needs x free) (sym h) ∙ ap (needs (length done)) (sym g.bytes) ∙ ap needed_of (sym a)
@@ -57,7 +57,7 @@ module _ (s : List ℕ) (start p : Spot) (free : ℕ) (done : List Item) (g : Go
         items = g.items ∙ ap (λ (m : ℕ). done ++ all_from m s p) z ∙ ap (λ (l : List Item). done ++ l) (next_all s n p q e);
       }
 
-  module _ (r : Nine) (q : Spot) (e : One r q ≡ found_of free (next_at s p)) where
+  module _ (r : Nine) (q : Spot) (e : one_found r q ≡ found_of free (next_at s p)) where
     abbrev pub it : Item
     it = (found_gives free (next_at s p) r q e).0
 

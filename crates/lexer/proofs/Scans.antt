@@ -1,4 +1,5 @@
 -- The scan of an item that starts at a place is the definition's reader there.
+use Rattle.std.proofs.Common.{Option}
 use Rattle.chars.specs.Utf8.{chars}
 use Rattle.chars.specs.Encode.{utf8}
 use Rattle.items.specs.Classes.{First, semicolon, quote, comma, hash, number, single, vertical, backslash, wordy, first_of}
@@ -17,7 +18,7 @@ use Rattle.lexer.specs.declared.Found.{Found}
 use Rattle.lexer.proofs.CharacterAt.{Here, char_here}
 use Rattle.lexer.proofs.Left.{ReadTo, left_here, part}
 use Rattle.lexer.proofs.Extents.{extent_fits}
-use Prim.Native.Nat.{ℕ, ◌+◌, ◌-◌, ◌^◌, ◌≤◌, ◌<◌}
+use Prim.Native.Nat.{ℕ, ◌+◌, ◌^◌, ◌≤◌, ◌<◌}
 use mathlib.Core.Path.{◌≡◌, refl, sym, ap, ◌∙◌, subst}
 use mathlib.Core.Bool.{Bool}
 use mathlib.Core.List.{List, []}
@@ -81,7 +82,7 @@ module _ (s : List ℕ) (report : Bool) (at c next : ℕ) (F : inner.First s at 
         ∙ ap (λ (y : ℕ). turn_of p at it.what (so_far it.item.bytes y)) n
         ∙ ap (λ (b : Bool). turn_of p at (read_item b at c (chars (drop next s))).what (read_item b at c (chars (drop next s))).item) (sym u)
 
-    pub found_is : (free : ℕ) (p : Spot) (r : Found) → p.report ≡ report
+    pub found_is : (free : ℕ) (p : Spot) (r : Option Found) → p.report ≡ report
         → r ≡ found_of free (turn_of p at x.what (so_far (part s at x.end) (at + length (part s at x.end))))
         → r ≡ found_of free (turn_at p at c (chars (drop next s)))
     found_is free p r u h = h ∙ ap (found_of free) (item_is p u)

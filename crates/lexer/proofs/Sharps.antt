@@ -1,12 +1,12 @@
 -- What a number sign begins, as far as the next bytes tell: the opening of a vector, a boolean of one letter before a byte that ends it, and a
 -- nested comment. The machine's turns after the sign are taken one by one.
+use Rattle.std.proofs.Common.{Some, None}
 use Rattle.laws.specs.Quoted.{code}
 use Rattle.laws.specs.Texts.{same, begins}
 use Rattle.laws.proofs.Places.{here}
 use Rattle.chars.specs.Blank.{is_blank}
 use Rattle.chars.specs.Encode.{bytes_of, utf8}
 use Rattle.chars.specs.Utf8.{first_bad}
-use Rattle.chars.specs.declared.Utf8.TheVariants.{Good}
 use Rattle.chars.proofs.Cuts.{good_past}
 use Rattle.chars.proofs.Chars.{CharAt, char_at}
 use Rattle.items.specs.Kinds as kind
@@ -30,7 +30,6 @@ use Rattle.items_telling.specs.declared.Quick.TheVariants as quick
 use Rattle.lexer.proofs.Glances as glances
 use Rattle.lexer.proofs.Tells.{and_false, comment-told}
 use Rattle.steps.specs.Ended.{EndsAs}
-use Rattle.steps.specs.declared.Ending.TheVariants as ending
 use Prim.Native.Nat.{ℕ, ◌+◌, ◌-◌, ◌<◌}
 use mathlib.Core.Path.{◌≡◌, refl, sym, ap, ◌∙◌, subst}
 use mathlib.Core.Bool.{Bool, false}
@@ -129,13 +128,13 @@ unfolding after_hash
 nest_opens report raw n = refl
 
 module _ (s : List ℕ) (at : ℕ) (N : Nests s at) where
-  pub nested_good : first_bad s ≡ Good → first_bad (drop (at + 2) s) ≡ Good
+  pub nested_good : first_bad s ≡ None → first_bad (drop (at + 2) s) ≡ None
   nested_good g =
       let n : at + 1 + 1 ≡ at + 2 = omega arith in
-      subst (λ (i : ℕ). first_bad (drop i s) ≡ Good) n (good_past s (at + 1) g N.more (omega (arith, N.bar)))
+      subst (λ (i : ℕ). first_bad (drop i s) ≡ None) n (good_past s (at + 1) g N.more (omega (arith, N.bar)))
 
   -- where comments are kept
-  pub nested_told_lem : (report skip : Bool) (e : ℕ) → skip ≡ false → EndsAs s report (ph.Nest 1) comment (at + 2) (ending.At e)
+  pub nested_told_lem : (report skip : Bool) (e : ℕ) → skip ≡ false → EndsAs s report (ph.Nest 1) comment (at + 2) (Some e)
       → GlanceAt s report skip at (quick.Item (means kind.Comment 0 Nowhere) at e)
   nested_told_lem report skip e kept h =
       let n : at + 1 + 1 ≡ at + 2 = omega arith in
@@ -145,8 +144,8 @@ module _ (s : List ℕ) (at : ℕ) (N : Nests s at) where
 
 -- ---- where only its end is asked for
 
-pub hash_skims : (s : List ℕ) (report skip : Bool) (at : ℕ) (q : Quick) → GlanceAt s report skip at q → (m : Means) (a e : ℕ) → q ≡ quick.Item m a e → SkimAt s report skip at (ending.At e)
+pub hash_skims : (s : List ℕ) (report skip : Bool) (at : ℕ) (q : Quick) → GlanceAt s report skip at q → (m : Means) (a e : ℕ) → q ≡ quick.Item m a e → SkimAt s report skip at (Some e)
 hash_skims s report skip at q g m a e h = let t = subst (GlanceAt s report skip at) h g in (m, t.2)
 
-pub bracket_skims : (s : List ℕ) (report skip : Bool) (at : ℕ) (q : Quick) → GlanceAt s report skip at q → (m : Means) (a e : ℕ) → q ≡ quick.Bracket m a e → SkimAt s report skip at (ending.At e)
+pub bracket_skims : (s : List ℕ) (report skip : Bool) (at : ℕ) (q : Quick) → GlanceAt s report skip at q → (m : Means) (a e : ℕ) → q ≡ quick.Bracket m a e → SkimAt s report skip at (Some e)
 bracket_skims s report skip at q g m a e h = let t = subst (GlanceAt s report skip at) h g in (m, t.2)

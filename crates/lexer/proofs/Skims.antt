@@ -12,25 +12,21 @@ use Rattle.items.specs.declared.Phase.TheVariants as ph
 use Rattle.items.specs.declared.Nine.{Nine}
 use Rattle.laws.specs.Quoted.{code}
 use Rattle.laws.proofs.Choice.{by_bool}
-use Rattle.numbers.specs.Grammar.{parse_number}
-use Rattle.numbers.specs.declared.Parsed.{Parsed}
-use Rattle.numbers.specs.declared.Parsed.TheVariants as parsed
+use Rattle.numbers.specs.Grammar.{parse_number, Parsed}
+use Rattle.numbers.specs.declared.ParseError.TheVariants as parsed
 use Rattle.steps.specs.Scan.{part, answer}
 use Rattle.steps.specs.Ended.{EndsAs}
-use Rattle.steps.specs.declared.Ending.{Ending}
-use Rattle.steps.specs.declared.Ending.TheVariants as ending
 use Rattle.meaning.specs.Meant.{means}
 use Rattle.meaning.specs.declared.Means.{Means}
 use Rattle.meaning.specs.declared.Text.TheVariants.{Nowhere, Source}
 use Rattle.meaning.specs.Places.{range_of}
 use Rattle.meaning.specs.Records.{nine_for}
-use Rattle.std.specs.Prelude.{if◌then◌else◌}
+use Rattle.std.specs.Prelude.{if◌then◌else◌, None, Option, Some, Ok, Err}
 use Rattle.lexer.specs.Glance.{Begins, WordedTo, Glanced, SkimAt}
 use Rattle.items_telling.specs.Tells.{Alone}
 use Rattle.lexer.specs.Writing.{Going, Counting, Counts, Further, told_to}
 use Rattle.lexer.specs.declared.Spot.{Spot}
-use Rattle.lexer.specs.Reading.{next_at, size_of, found_of}
-use Rattle.lexer.specs.declared.Found.TheVariants.{One}
+use Rattle.lexer.specs.Reading.{next_at, size_of, found_of, one_found}
 use Rattle.lexer.proofs.Glances.{next_told, told_place, bare_nine}
 use Rattle.lexer.proofs.ReadingOn.{going_on, it, it_moved, size_le}
 use Rattle.lexer.proofs.ToldTurns.{here, Blanks, going_blanks, none_halfway}
@@ -62,15 +58,15 @@ module _ (at : ℕ) (raw : List ℕ) (n : first_is (code "+") raw ≡ false) whe
 
   run_sole : (p : Parsed) → parse_number raw ≡ p → Sole Run at raw
   unfolding run_means
-  run_sole (parsed.Is q) f = let t = run_tells at (at + length raw) raw refl q f in (means kind.Number 0 Nowhere, (t.4, t.2))
-  run_sole parsed.NoNumber f =
+  run_sole (Ok q) f = let t = run_tells at (at + length raw) raw refl q f in (means kind.Number 0 Nowhere, (t.4, t.2))
+  run_sole (Err parsed.NoNumber) f =
       let w = word_sole in
       (w.0, (record { means = λ r. rw f (w.1.0.means r); undecoded = w.1.0.undecoded }, w.1.1))
-  run_sole parsed.ZeroDenominator f = (means (kind.first_error + kind.ZeroDenominator) 0 Nowhere, (record { means = λ r. rw f; undecoded = tt }, refl))
+  run_sole (Err parsed.ZeroDenominator) f = (means (kind.first_error + kind.ZeroDenominator) 0 Nowhere, (record { means = λ r. rw f; undecoded = tt }, refl))
 
 module _ (s : List ℕ) (report skip : Bool) (at next : ℕ) (short : length s ≤ limit) where
   sole_skims : (o : Outcome) (p : Phase) (e : ℕ) → Begins s at next p → record { what = o; end = e } ≡ answer s report at p next
-      → ((last : Place) (i : SoFar) → range_after report last at o i ≡ last) → Sole o at (part s at e) → SkimAt s report skip at (ending.At e)
+      → ((last : Place) (i : SoFar) → range_after report last at o i ≡ last) → Sole o at (part s at e) → SkimAt s report skip at (Some e)
   sole_skims o p e B h quiet S =
       (S.0, record { what = o; phase = p; next = next; begins = B; scan = h; quiet = λ last end. quiet last _; alone = S.1.0; kept = and_false skip (eqb S.0.kind kind.Comment) S.1.1 })
 
@@ -78,30 +74,30 @@ module _ (s : List ℕ) (report skip : Bool) (at next : ℕ) (short : length s �
       → (get_or s at 0 ≡ code "+" → ⊥) → first_is (code "+") (part s at e) ≡ false
   no_plus o p e B h n = rw (first_byte s at e (spans s report at next e o p B h short).some) (ne_eqb (get_or s at 0) (code "+") n)
 
-  pub word_skims : Begins s at next ph.InWord → (get_or s at 0 ≡ code "+" → ⊥) → (r : Ending) → EndsAs s report ph.InWord Word next r → SkimAt s report skip at r
-  word_skims B n ending.Unknown h = tt
-  word_skims B n (ending.At e) h =
+  pub word_skims : Begins s at next ph.InWord → (get_or s at 0 ≡ code "+" → ⊥) → (r : Option ℕ) → EndsAs s report ph.InWord Word next r → SkimAt s report skip at r
+  word_skims B n None h = tt
+  word_skims B n (Some e) h =
       let scan = ends_here s report at next ph.InWord Word e B h in
       sole_skims Word ph.InWord e B scan (λ last i. refl) (word_sole at (part s at e) (no_plus Word ph.InWord e B scan n))
 
-  pub run_skims : Begins s at next ph.InRun → (get_or s at 0 ≡ code "+" → ⊥) → (r : Ending) → EndsAs s report ph.InRun Run next r → SkimAt s report skip at r
-  run_skims B n ending.Unknown h = tt
-  run_skims B n (ending.At e) h =
+  pub run_skims : Begins s at next ph.InRun → (get_or s at 0 ≡ code "+" → ⊥) → (r : Option ℕ) → EndsAs s report ph.InRun Run next r → SkimAt s report skip at r
+  run_skims B n None h = tt
+  run_skims B n (Some e) h =
       let scan = ends_here s report at next ph.InRun Run e B h in
       sole_skims Run ph.InRun e B scan (λ last i. refl) (run_sole at (part s at e) (no_plus Run ph.InRun e B scan n) (parse_number (part s at e)) refl)
 
-  pub line_skims : skip ≡ false → Begins s at next ph.InLine → (r : Ending) → EndsAs s report ph.InLine comment next r → SkimAt s report skip at r
-  line_skims k B ending.Unknown h = tt
-  line_skims k B (ending.At e) h = (means kind.Comment 0 Nowhere, (comment-told s report skip at next e ph.InLine k B (ends_here s report at next ph.InLine comment e B h)).2)
+  pub line_skims : skip ≡ false → Begins s at next ph.InLine → (r : Option ℕ) → EndsAs s report ph.InLine comment next r → SkimAt s report skip at r
+  line_skims k B None h = tt
+  line_skims k B (Some e) h = (means kind.Comment 0 Nowhere, (comment-told s report skip at next e ph.InLine k B (ends_here s report at next ph.InLine comment e B h)).2)
 
-pub worded_skims : (s : List ℕ) (report skip : Bool) (at : ℕ) → length s ≤ limit → (r : Ending) → WordedTo s at r → SkimAt s report skip at r
-worded_skims s report skip at short ending.Unknown w = tt
-worded_skims s report skip at short (ending.At e) w = word_skims s report skip at w.0 short w.1.0.begins w.1.0.other (ending.At e) (w.1.1 report)
+pub worded_skims : (s : List ℕ) (report skip : Bool) (at : ℕ) → length s ≤ limit → (r : Option ℕ) → WordedTo s at r → SkimAt s report skip at r
+worded_skims s report skip at short None w = tt
+worded_skims s report skip at short (Some e) w = word_skims s report skip at w.0 short w.1.0.begins w.1.0.other (Some e) (w.1.1 report)
 
 -- ---- a turn of the counting loop
 
 module _ (s : List ℕ) (start p : Spot) (at : ℕ) (second : Bool) (free : ℕ) (done : List Item) (g : Going s start (here p at second) free done) (e : ℕ)
-    (h : SkimAt s p.report p.skip at (ending.At e)) where
+    (h : SkimAt s p.report p.skip at (Some e)) where
   abbrev pub m : Means
   m = h.0
 
@@ -111,7 +107,7 @@ module _ (s : List ℕ) (start p : Spot) (at : ℕ) (second : Bool) (free : ℕ)
   abbrev pub written : Nine
   written = nine_for free m (range_of (range at e)) (told_place s p.report p.skip at e m G (here p at second))
 
-  pub next : One written (here p e false) ≡ found_of free (next_at s (here p at second))
+  pub next : one_found written (here p e false) ≡ found_of free (next_at s (here p at second))
   next = next_told s p.report p.skip at e m G free (here p at second) refl refl refl
 
   abbrev pub skimmed : Item
@@ -151,9 +147,9 @@ module _ (s : List ℕ) (p : Spot) (n₀ : ℕ) where
     pub counted_few : n ≤ 2 * length s + 1
     counted_few = omega (arith, c.going.few, c.count, size_le s counts.start)
 
-    module _ (r : Ending) (e : ℕ) (is : r ≡ ending.At e) (h : SkimAt s p.report p.skip at r) (next : ℕ) (b : Blanks s e next) (l : n₀ ≤ n) where
-      there : SkimAt s p.report p.skip at (ending.At e)
-      there = subst (λ (x : Ending). SkimAt s p.report p.skip at x) is h
+    module _ (r : Option ℕ) (e : ℕ) (is : r ≡ Some e) (h : SkimAt s p.report p.skip at r) (next : ℕ) (b : Blanks s e next) (l : n₀ ≤ n) where
+      there : SkimAt s p.report p.skip at (Some e)
+      there = subst (λ (x : Option ℕ). SkimAt s p.report p.skip at x) is h
 
       gone : here p next false ≡ told_to p next n₀ (n + 1)
       gone = none_halfway p n₀ next (n + 1) (omega arith)

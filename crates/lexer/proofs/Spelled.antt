@@ -1,4 +1,5 @@
 -- A decoded text is what the decoder makes of its item's extent, by the quotes that its kind tells.
+use Rattle.std.proofs.Common.{Ok, Err, Result}
 use Rattle.items.specs.Kinds as kind
 use Rattle.items.specs.Meaning.{Text, none, source, decoded, Meaning, escaped, unescape, word_kind, word_means, run_means, string_text}
 use Rattle.items.specs.Meaning.{lined_text, here_text, character_means, character_of, char_inside, meaning_of}
@@ -6,13 +7,12 @@ use Rattle.items.specs.Readers.{SoFar, first_is}
 use Rattle.items.specs.Items.{Place, Item, items_of, range_after, standing, extent_items, memory_of}
 use Rattle.items.specs.declared.Outcome.{Outcome}
 use Rattle.items.specs.declared.Outcome.TheVariants.{Token, Str, HereStr, Word, Run, Lined, Keyword, Character, Error, ErrorAt}
-use Rattle.items.specs.declared.CharValue.{CharValue}
-use Rattle.items.specs.declared.CharValue.TheVariants.{Scalar, Wrong, WrongAt}
+use Rattle.items.specs.declared.CharError.{CharError}
+use Rattle.items.specs.declared.CharError.TheVariants.{Wrong, WrongAt}
 use Rattle.items.specs.declared.Quotes.TheVariants.{Lines}
 use Rattle.items.proofs.Every.{Every}
-use Rattle.numbers.specs.Grammar.{parse_number}
-use Rattle.numbers.specs.declared.Parsed.{Parsed}
-use Rattle.numbers.specs.declared.Parsed.TheVariants as parsed
+use Rattle.numbers.specs.Grammar.{parse_number, Parsed}
+use Rattle.numbers.specs.declared.ParseError.TheVariants as parsed
 use Rattle.laws.specs.Quoted.{code}
 use Rattle.laws.proofs.Choice.{if_all}
 use Rattle.lexer.specs.Inner.{quotes_of}
@@ -42,9 +42,9 @@ module _ (s e : ℕ) (raw : List ℕ) where
 
   spelled_run : (p : Parsed) → All (run_means p s e raw)
   unfolding run_means
-  spelled_run (parsed.Is p) = (tt, tt)
-  spelled_run parsed.NoNumber = spelled_word
-  spelled_run parsed.ZeroDenominator = (tt, tt)
+  spelled_run (Ok p) = (tt, tt)
+  spelled_run (Err parsed.NoNumber) = spelled_word
+  spelled_run (Err parsed.ZeroDenominator) = (tt, tt)
 
   spelled_string : SpelledText raw kind.StringLiteral (string_text s e raw)
   unfolding string_text
@@ -54,10 +54,10 @@ module _ (s e : ℕ) (raw : List ℕ) where
   unfolding lined_text
   spelled_lined = if_all (SpelledText raw kind.Identifier) (escaped raw && ltb 0 (length (unescape Lines (drop 1 raw)))) refl tt
 
-  spelled_character : (v : CharValue) → All (character_means v)
-  spelled_character (Scalar c) = (tt, tt)
-  spelled_character (Wrong n d) = (tt, tt)
-  spelled_character (WrongAt n d p) = (tt, tt)
+  spelled_character : (v : Result ℕ CharError) → All (character_means v)
+  spelled_character (Ok c) = (tt, tt)
+  spelled_character (Err (Wrong n d)) = (tt, tt)
+  spelled_character (Err (WrongAt n d p)) = (tt, tt)
 
   pub spelled : (report : Bool) (o : Outcome) → All (meaning_of report o s e raw)
   unfolding here_text
@@ -86,14 +86,14 @@ module _ (s e : ℕ) (raw : List ℕ) where
 
   fronts_run : (p : Parsed) → Fronts (run_means p s e raw)
   unfolding run_means
-  fronts_run (parsed.Is p) = tt
-  fronts_run parsed.NoNumber = fronts_word
-  fronts_run parsed.ZeroDenominator = tt
+  fronts_run (Ok p) = tt
+  fronts_run (Err parsed.NoNumber) = fronts_word
+  fronts_run (Err parsed.ZeroDenominator) = tt
 
-  fronts_character : (v : CharValue) → Fronts (character_means v)
-  fronts_character (Scalar c) = tt
-  fronts_character (Wrong n d) = tt
-  fronts_character (WrongAt n d p) = tt
+  fronts_character : (v : Result ℕ CharError) → Fronts (character_means v)
+  fronts_character (Ok c) = tt
+  fronts_character (Err (Wrong n d)) = tt
+  fronts_character (Err (WrongAt n d p)) = tt
 
   fronts : (report : Bool) (o : Outcome) → Fronts (meaning_of report o s e raw)
   fronts report (Token k d) = tt

@@ -1,4 +1,5 @@
 -- The first character that is no blank, a character at a time.
+use Rattle.std.proofs.Common.{None}
 use Rattle.chars.specs.Utf8.{front, placed, chars}
 use Rattle.chars.specs.Blank.{is_blank}
 use Rattle.chars.specs.declared.Decoded.{Decoded}
@@ -9,8 +10,7 @@ use Rattle.laws.proofs.Choice.{by_bool}
 use Rattle.laws.proofs.Runs.{span_le, span_hit, span_stop, span_end}
 use Rattle.byte_runs.specs.Runs.{blank}
 use Rattle.steps.proofs.Kept.{ascii_found, blank_ascii}
-use Rattle.lexer.specs.Reading.{start_from}
-use Rattle.lexer.specs.declared.FirstChar.TheVariants.{At, Nothing}
+use Rattle.lexer.specs.Reading.{start_from, first_at}
 use Rattle.lexer.proofs.CharacterAt.{char_found}
 use Prim.Native.Nat.{ℕ, zero, suc, ◌+◌, ◌≤◌, ◌<◌}
 use mathlib.Core.Path.{◌≡◌, sym, ap, ◌∙◌}
@@ -29,13 +29,13 @@ module _ (s : List ℕ) (at : ℕ) where
         let k : CharAt s at c next = char_found s at c next found in
         ap (start_from at) k.first ∙ rw b (ap (λ (x : ℕ). start_from x (chars (drop next s))) (sym k.on))
 
-    pub start_solid : is_blank c ≡ false → At c at next ≡ start_from at (chars (drop at s))
+    pub start_solid : is_blank c ≡ false → first_at c at next ≡ start_from at (chars (drop at s))
     unfolding start_from
     start_solid b =
         let k : CharAt s at c next = char_found s at c next found in
-        ap (At c at) k.on ∙ sym (ap (start_from at) k.first ∙ rw b)
+        ap (first_at c at) k.on ∙ sym (ap (start_from at) k.first ∙ rw b)
 
-  pub start_none : (o : Decoded) → o ≡ placed at (front (drop at s)) → ((c n : ℕ) → o ≡ decoded.Char c n → ⊥) → Nothing ≡ start_from at (chars (drop at s))
+  pub start_none : (o : Decoded) → o ≡ placed at (front (drop at s)) → ((c n : ℕ) → o ≡ decoded.Char c n → ⊥) → None ≡ start_from at (chars (drop at s))
   unfolding start_from
   start_none o e h = sym (ap (start_from at) (nothing_at s at o e h))
 

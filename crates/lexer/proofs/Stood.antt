@@ -5,9 +5,8 @@ use Rattle.items.specs.Machine.{on_first, depth_of}
 use Rattle.items.specs.declared.Phase.{Phase}
 use Rattle.steps.specs.Scan.{answer}
 use Rattle.lexer.specs.Inner as inner
-use Rattle.lexer.specs.Reading.{start_from}
+use Rattle.lexer.specs.Reading.{start_from, first_at}
 use Rattle.lexer.specs.Begun.{Stands}
-use Rattle.lexer.specs.declared.FirstChar.TheVariants.{At}
 use Rattle.lexer.proofs.Turns.{Started, started}
 use Rattle.lexer.proofs.Scans.{first_depth, inside}
 use Prim.Native.Nat.{ℕ}
@@ -21,7 +20,7 @@ first_of_case : (s : List ℕ) (at c a n : ℕ) → Started s at (chars (drop at
 first_of_case s at c a n S = record { first = S.first; on = S.next; solid = S.solid }
 
 -- right behind that character
-pub first_stands : (s : List ℕ) (at c a n : ℕ) (p : Phase) → start_from at (chars (drop at s)) ≡ At c a n → p ≡ on_first (first_of c) → Stands s at a n p
+pub first_stands : (s : List ℕ) (at c a n : ℕ) (p : Phase) → start_from at (chars (drop at s)) ≡ first_at c a n → p ≡ on_first (first_of c) → Stands s at a n p
 first_stands s at c a n p e f =
     let i = inside s false a c n (first_of_case s at c a n (started s (chars (drop at s)) at refl c a n e)) in
     record {

@@ -1,4 +1,5 @@
 -- A string that its bytes tell: where it stands, and the item of one that fails, an error at its own range in both modes.
+use Rattle.std.proofs.Common.{Option}
 use Rattle.chars.specs.Utf8.{chars}
 use Rattle.items.specs.Kinds as kind
 use Rattle.items.specs.Classes.{first_of}
@@ -21,12 +22,11 @@ use Rattle.meaning.specs.Records.{nine_for}
 use Rattle.items_telling.specs.Strings.{failure, StrungAs}
 use Rattle.items_telling.specs.declared.Strung.TheVariants as strung
 use Rattle.lexer.specs.Inner as inner
-use Rattle.lexer.specs.Reading.{moved, turn, turn_at, found_of}
+use Rattle.lexer.specs.Reading.{moved, turn, turn_at, found_of, one_found}
 use Rattle.lexer.specs.Glance.{Begins}
 use Rattle.lexer.specs.Begun.{Stands, WrongAt}
 use Rattle.lexer.specs.declared.Spot.{Spot}
 use Rattle.lexer.specs.declared.Found.{Found}
-use Rattle.lexer.specs.declared.Found.TheVariants.{One}
 use Rattle.lexer.proofs.Cases.{turn_here}
 use Rattle.lexer.proofs.Scans.{found_is}
 use Rattle.lexer.proofs.Gives.{found_one}
@@ -102,8 +102,8 @@ module _ (s : List ℕ) (p : Spot) (e : ℕ) (W : WrongAt s p.at e) where
   abbrev after : Spot
   after = moved p e (place_in own) false
 
-  abbrev made : ℕ → Found
-  made free = One (nine_for free m (range_of (range at e)) own) after
+  abbrev made : ℕ → Option Found
+  made free = one_found (nine_for free m (range_of (range at e)) own) after
 
   turn_wrong : (free : ℕ) → made free ≡ found_of free (turn_at p at c (chars (drop (at + 1) s)))
   turn_wrong free =

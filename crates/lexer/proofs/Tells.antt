@@ -1,4 +1,5 @@
 -- What one look at a first byte, and one at where its run ends, tell of the item there.
+use Rattle.std.proofs.Common.{None, Option, Some}
 use Rattle.chars.specs.Utf8.{chars}
 use Rattle.chars.specs.Blank.{is_blank}
 use Rattle.items.specs.Kinds as kind
@@ -13,8 +14,6 @@ use Rattle.items.specs.declared.Phase.{Phase}
 use Rattle.items.specs.declared.Phase.TheVariants as ph
 use Rattle.steps.specs.Scan.{part, answer}
 use Rattle.steps.specs.Ended.{EndsAs}
-use Rattle.steps.specs.declared.Ending.{Ending}
-use Rattle.steps.specs.declared.Ending.TheVariants as ending
 use Rattle.steps.proofs.Kept.{done_scan}
 use Rattle.meaning.specs.Meant.{means}
 use Rattle.meaning.specs.declared.Text.TheVariants.{Nowhere}
@@ -65,7 +64,7 @@ single_told s report skip at c k d h e l b f other = record {
 pub begins_inside : (s : List ℕ) (at next : ℕ) (p : Phase) → Begins s at next p → next ≤ length s
 begins_inside s at next p B = (inside s false at B.c next B.first).1
 
-pub ends_here : (s : List ℕ) (report : Bool) (at next : ℕ) (p : Phase) (o : Outcome) (e : ℕ) → Begins s at next p → EndsAs s report p o next (ending.At e)
+pub ends_here : (s : List ℕ) (report : Bool) (at next : ℕ) (p : Phase) (o : Outcome) (e : ℕ) → Begins s at next p → EndsAs s report p o next (Some e)
     → record { what = o; end = e } ≡ answer s report at p next
 ends_here s report at next p o e B h = sym (h at (omega (arith, B.first.on)))
 
@@ -128,6 +127,6 @@ comment-told s report skip at next e p k B h = (
 
 -- ---- a word whose first character ends at the place `next`
 
-pub worded_to : (s : List ℕ) (at next : ℕ) → Worded s at next → (r : Ending) → ((report : Bool) → EndsAs s report ph.InWord Word next r) → WordedTo s at r
-worded_to s at next w (ending.At e) h = (next, (w, h))
-worded_to s at next w ending.Unknown h = tt
+pub worded_to : (s : List ℕ) (at next : ℕ) → Worded s at next → (r : Option ℕ) → ((report : Bool) → EndsAs s report ph.InWord Word next r) → WordedTo s at r
+worded_to s at next w (Some e) h = (next, (w, h))
+worded_to s at next w None h = tt

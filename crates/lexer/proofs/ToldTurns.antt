@@ -12,12 +12,11 @@ use Rattle.meaning.specs.declared.Means.{Means}
 use Rattle.meaning.specs.declared.Range.{Range}
 use Rattle.meaning.specs.Places.{place_in, range_of}
 use Rattle.meaning.specs.Records.{nine_for, TextFits}
-use Rattle.lexer.specs.Reading.{moved, next_at, size_of, start_from, found_of}
+use Rattle.lexer.specs.Reading.{moved, next_at, size_of, start_from, found_of, one_found}
 use Rattle.lexer.specs.Inner.{deep_at}
 use Rattle.lexer.specs.Writing.{Going, Writing, Roomy, Amid, Onward, told_to, ToldOn}
 use Rattle.lexer.specs.Glance.{Glanced}
 use Rattle.lexer.specs.declared.Spot.{Spot}
-use Rattle.lexer.specs.declared.Found.TheVariants.{One}
 use Rattle.lexer.proofs.Turns.{turn_past}
 use Rattle.lexer.proofs.Nexts.{next_same}
 use Rattle.lexer.proofs.ReadingOn.{going_past}
@@ -72,9 +71,9 @@ module _ (s : List ℕ) (start : Spot) (recs₀ text₀ : List ℕ) (roomy : Roo
     abbrev r : Nine
     r = nine_for free m (range_of (range a e)) (range_of (range a e))
 
-    next : One r (here p e false) ≡ found_of free (next_at s (here p at second))
+    next : one_found r (here p e false) ≡ found_of free (next_at s (here p at second))
     next =
-        subst (λ (x : Range). One (nine_for free m (range_of (range a e)) x) (here p e false) ≡ found_of free (next_at s (here p at second)))
+        subst (λ (x : Range). one_found (nine_for free m (range_of (range a e)) x) (here p e false) ≡ found_of free (next_at s (here p at second)))
         (place_fine s p.report p.skip a e m G told.1 (here p at second))
         (next_told s p.report p.skip a e m G free (here p at second) refl refl (ap (λ (x : ℕ). start_from x (chars (drop x s))) told.0))
 

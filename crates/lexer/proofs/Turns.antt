@@ -1,5 +1,6 @@
 -- A turn, by the first character that is no blank: what the turn gives there, and that the items of the definition from the same place
 -- on are those of that extent and the ones after it.
+use Rattle.std.proofs.Common.{None, Option, Some}
 use Rattle.chars.specs.Utf8.{sequences, chars}
 use Rattle.chars.specs.Encode.{width}
 use Rattle.chars.specs.Blank.{is_blank}
@@ -8,10 +9,9 @@ use Rattle.items.specs.Items.{Place, Item, range_after, extent_items, items_from
 use Rattle.items.proofs.Run.{turns_enough, read_left}
 use Rattle.laws.proofs.Choice.{by_bool, impossible}
 use Rattle.laws.proofs.Places.{past}
-use Rattle.lexer.specs.Reading.{ends, moved, turn_at, turn_from, turn, start_from}
+use Rattle.lexer.specs.Reading.{ends, moved, turn_at, turn_from, turn, start_from, first_at}
 use Rattle.lexer.specs.declared.Spot.{Spot}
 use Rattle.lexer.specs.declared.FirstChar.{FirstChar}
-use Rattle.lexer.specs.declared.FirstChar.TheVariants.{At, Nothing}
 use Rattle.lexer.proofs.CharacterAt.{Here, char_here}
 use Prim.Native.Nat.{ℕ, ◌+◌, ◌≤◌}
 use mathlib.Core.Path.{◌≡◌, refl, sym, ap, ◌∙◌}
@@ -30,6 +30,9 @@ abbrev pub extent_then : Bool → Place → ℕ → ℕ → List ℕ → List It
 extent_then report last a c cs =
     let r : Read = read_item report a c cs in
     extent_items report last a r.what r.item ++ items_on report (range_after report last a r.what r.item) r.item.at r.rest
+
+same_first : (x y : FirstChar) → Some x ≡ Some y → x ≡ y
+same_first x y e = cc
 
 -- c at a is the first that is no blank of the characters cs from `at` on, and n is the place past it
 pub record Started (s : List ℕ) (at : ℕ) (cs : List ℕ) (c a n : ℕ) : Type 0 where
@@ -57,7 +60,7 @@ module _ (s : List ℕ) where
             (turns_enough report (length cs) (length (read_item report at c cs).rest) _ _ (read_item report at c cs).rest (read_left report at c cs) (le_refl _))));
       }
 
-  pub started : (cs : List ℕ) (at : ℕ) → cs ≡ chars (drop at s) → (c a n : ℕ) → start_from at cs ≡ At c a n → Started s at cs c a n
+  pub started : (cs : List ℕ) (at : ℕ) → cs ≡ chars (drop at s) → (c a n : ℕ) → start_from at cs ≡ first_at c a n → Started s at cs c a n
   unfolding start_from turn_from items_from
   started [] at e c a n f = impossible cc
   started (d ∷ cs) at e c a n f = by_bool (is_blank d)
@@ -71,21 +74,22 @@ module _ (s : List ℕ) where
         turn = λ p. rw (b, turn_from) (m.turn p);
         items = λ report last. rw (b, items_from) (m.items report last);
       })
-      (λ b. let q : At d at (at + width d) ≡ At c a n = rw b at f in
-      let o : c ≡ d = cc in
-      let p : a ≡ at = cc in
-      let r : n ≡ at + width d = cc in
+      (λ b. let q : first_at d at (at + width d) ≡ first_at c a n = rw b at f in
+      let x = sym (same_first _ _ q) in
+      let o : c ≡ d = ap (λ (y : FirstChar). y.code) x in
+      let p : a ≡ at = ap (λ (y : FirstChar). y.at) x in
+      let r : n ≡ at + width d = ap (λ (y : FirstChar). y.past) x in
       rw (o, p, r) (start_here at d cs e b))
 
 -- only blanks are left
-pub none_started : (cs : List ℕ) (at : ℕ) → start_from at cs ≡ Nothing
+pub none_started : (cs : List ℕ) (at : ℕ) → start_from at cs ≡ None
     → ((p : Spot) → turn_from p at cs ≡ ends) × ((report : Bool) (last : Place) → items_on report last at cs ≡ [])
 unfolding start_from turn_from items_from
 none_started [] at f = ((λ p. refl), (λ report last. refl))
 none_started (d ∷ cs) at f = by_bool (is_blank d)
     (λ b. let m = none_started cs (at + width d) (rw b at f) in
     ((λ p. rw (b, turn_from) (m.0 p)), (λ report last. rw (b, items_from) (m.1 report last))))
-    (λ b. let q : At d at (at + width d) ≡ Nothing = rw b at f in impossible cc)
+    (λ b. let q : first_at d at (at + width d) ≡ None = rw b at f in impossible cc)
 
 -- ---- a turn of a spot
 
@@ -93,7 +97,7 @@ pub turn_started : (s : List ℕ) (p : Spot) (c a n : ℕ) → Started s p.at (c
 unfolding turn
 turn_started s p c a n S = S.turn p
 
-pub turn_nothing : (s : List ℕ) (p : Spot) → start_from p.at (chars (drop p.at s)) ≡ Nothing → turn s p ≡ ends
+pub turn_nothing : (s : List ℕ) (p : Spot) → start_from p.at (chars (drop p.at s)) ≡ None → turn s p ≡ ends
 unfolding turn
 turn_nothing s p f = (none_started (chars (drop p.at s)) p.at f).0 p
 
@@ -102,11 +106,11 @@ pub turn_past : (s : List ℕ) (p : Spot) (at next : ℕ) (last : Place) (second
     → turn s (moved p next last second) ≡ turn s (moved p at last second)
 turn_past s p at next last second e = go (start_from at (chars (drop at s))) refl
   where
-    go : (o : FirstChar) → start_from at (chars (drop at s)) ≡ o → turn s (moved p next last second) ≡ turn s (moved p at last second)
-    go (At c a n) f =
-        turn_started s (moved p next last second) c a n (started s (chars (drop next s)) next refl c a n (e ∙ f))
-        ∙ sym (turn_started s (moved p at last second) c a n (started s (chars (drop at s)) at refl c a n f))
-    go Nothing f = turn_nothing s (moved p next last second) (e ∙ f) ∙ sym (turn_nothing s (moved p at last second) f)
+    go : (o : Option FirstChar) → start_from at (chars (drop at s)) ≡ o → turn s (moved p next last second) ≡ turn s (moved p at last second)
+    go (Some x) f =
+        turn_started s (moved p next last second) x.code x.at x.past (started s (chars (drop next s)) next refl x.code x.at x.past (e ∙ f))
+        ∙ sym (turn_started s (moved p at last second) x.code x.at x.past (started s (chars (drop at s)) at refl x.code x.at x.past f))
+    go None f = turn_nothing s (moved p next last second) (e ∙ f) ∙ sym (turn_nothing s (moved p at last second) f)
 
 -- past the last character there is no turn
 pub turn_end : (s : List ℕ) (p : Spot) → length s ≤ p.at → turn s p ≡ ends

@@ -1,15 +1,15 @@
 -- Writing: what the two lent memories hold while the items are read on.
+use Rattle.std.proofs.Common.{None}
 use Rattle.laws.specs.Lent.{written}
 use Rattle.laws.proofs.Lent.{length-written, part_written}
 use Rattle.items.specs.Items.{Item, depth_after, depth_past, record_words, record_of, words_of, memory_of, records, texts}
 use Rattle.items.specs.declared.Nine.{Nine}
 use Rattle.items.proofs.Fit.{records-length}
 use Rattle.meaning.specs.Records.{packed}
-use Rattle.lexer.specs.Reading.{size_of, next_at, all_from, all_items, found_of}
+use Rattle.lexer.specs.Reading.{size_of, next_at, all_from, all_items, found_of, one_found}
 use Rattle.lexer.specs.Inner.{bytes_for, free_after, deep_at, needed_of}
 use Rattle.lexer.specs.Writing.{Going, Writing, Roomy}
 use Rattle.lexer.specs.declared.Spot.{Spot}
-use Rattle.lexer.specs.declared.Found.TheVariants.{One, End}
 use Rattle.lexer.proofs.Turns.{turn_end}
 use Rattle.lexer.proofs.Moves.{Moved, Whole}
 use Rattle.lexer.proofs.Nexts.{next_at_ends}
@@ -23,7 +23,7 @@ use native.Mathlib.Omega.{arith}
 use borrow.Rule.Slice.PartMut.{put_mid}
 
 -- past the last byte there is no further item
-pub past_end : (s : List ℕ) (p : Spot) (free : ℕ) → length s ≤ p.at → End ≡ found_of free (next_at s p)
+pub past_end : (s : List ℕ) (p : Spot) (free : ℕ) → length s ≤ p.at → None ≡ found_of free (next_at s p)
 past_end s p free h = sym (ap (found_of free) (next_at_ends s p (turn_end s p h)))
 
 -- what an item's nine words say of its text, for the decoder
@@ -70,15 +70,15 @@ module _ (s : List ℕ) (start : Spot) (recs₀ text₀ : List ℕ) (roomy : Roo
     }
 
     -- what was written, by the words and the bytes that it took
-    pub written_all : (n : ℕ) → n ≡ w / record_words → End ≡ found_of free (next_at s p) → record { items = n; text = free } ≡ needed_of (all_items s start)
+    pub written_all : (n : ℕ) → n ≡ w / record_words → None ≡ found_of free (next_at s p) → record { items = n; text = free } ≡ needed_of (all_items s start)
     written_all n h e = counted s start p free g.done g.going n (omega (arith, g.count, records-length 0 0 g.done)) e
 
-    pub writing_end : End ≡ found_of free (next_at s p) → (recs ≡ written (records 0 0 (all_items s start)) recs₀) × (text ≡ written (texts (all_items s start)) text₀)
+    pub writing_end : None ≡ found_of free (next_at s p) → (recs ≡ written (records 0 0 (all_items s start)) recs₀) × (text ≡ written (texts (all_items s start)) text₀)
     writing_end e =
         let a : all_items s start ≡ g.done = going_end s start p free g.done g.going e in
         (g.rows ∙ ap (λ (l : List Item). written (records 0 0 l) recs₀) (sym a), g.bytes ∙ ap (λ (l : List Item). written (texts l) text₀) (sym a))
 
-    module _ (r : Nine) (q : Spot) (e : One r q ≡ found_of free (next_at s p)) where
+    module _ (r : Nine) (q : Spot) (e : one_found r q ≡ found_of free (next_at s p)) where
       abbrev i : Item
       i = it s start p free g.done g.going r q e
 

@@ -1,5 +1,5 @@
 -- What the answers of the whole-text call and of the reader mean: document 01's numbers and values.
-use Rattle.std.specs.Prelude.{ℕ, List, length, leb, ltb, if◌then◌else◌}
+use Rattle.std.specs.Prelude.{ℕ, List, length, leb, ltb, if◌then◌else◌, None, Option, Some, Result, Ok, Err}
 use Rattle.laws.specs.Lent.{written}
 use Rattle.refusal.specs.Refusals as refusal
 use Rattle.items.specs.Items.{depth_after, memory_of, record_of, words_of}
@@ -7,19 +7,29 @@ use Rattle.items.specs.Whole.{Answer, served, refused, limit}
 use Rattle.lexer.specs.Reading.{Turn, gives, ends, next_at}
 use Rattle.lexer.specs.declared.Spot.{Spot}
 use Rattle.lexer.specs.declared.Position.{Position}
-use Rattle.lexer.specs.declared.ReadAnswer.{ReadAnswer}
-use Rattle.lexer.specs.declared.ReadAnswer.TheVariants as read
-use Rattle.lexer.specs.declared.NextAnswer.{NextAnswer}
-use Rattle.lexer.specs.declared.NextAnswer.TheVariants as next
+use Rattle.lexer.specs.declared.Needed.{Needed}
+use Rattle.lexer.specs.declared.Given.{Given}
+use Rattle.lexer.specs.declared.OpenError.{OpenError}
+use Rattle.lexer.specs.declared.OpenError.TheVariants as opens
+use Rattle.lexer.specs.declared.ReadError.{ReadError}
+use Rattle.lexer.specs.declared.ReadError.TheVariants as read
+use Rattle.lexer.specs.declared.NextError.{NextError}
+use Rattle.lexer.specs.declared.NextError.TheVariants as next
 
 -- ---- the whole-text call: crate `items` has `read_of`, all of it
 
-abbrev pub answer_of : ReadAnswer → Answer
-answer_of (read.Served items text) = served items text
-answer_of (read.NoMode mode) = refused refusal.no_such_mode mode 0
-answer_of read.TooLong = refused refusal.over_long limit 0
-answer_of (read.NotUtf8 at) = refused refusal.not_utf8 at 0
-answer_of (read.NoRoom items text) = refused refusal.too_few items text
+abbrev pub answer_of : Result Needed ReadError → Answer
+answer_of (Ok done) = served done.items done.text
+answer_of (Err (read.NoMode mode)) = refused refusal.no_such_mode mode 0
+answer_of (Err read.TooLong) = refused refusal.over_long limit 0
+answer_of (Err (read.NotUtf8 at)) = refused refusal.not_utf8 at 0
+answer_of (Err (read.NoRoom needed)) = refused refusal.too_few needed.items needed.text
+
+-- what opening refuses the call refuses too
+abbrev pub read_error : OpenError → ReadError
+read_error (opens.NoMode mode) = read.NoMode mode
+read_error opens.TooLong = read.TooLong
+read_error (opens.NotUtf8 at) = read.NotUtf8 at
 
 -- ---- one item of the reader
 
@@ -29,11 +39,11 @@ pub data Reply : Type 0 where
   finished : Reply
   refuses : ℕ → ℕ → ℕ → Reply
 
-abbrev pub reply_of : NextAnswer → Reply
-reply_of (next.Item r p) = item (words_of r) p
-reply_of next.Finished = finished
-reply_of next.TooLong = refuses refusal.over_long limit 0
-reply_of (next.NoRoom text) = refuses refusal.too_few 1 text
+abbrev pub reply_of : Result (Option Given) NextError → Reply
+reply_of (Ok (Some g)) = item (words_of g.item) g.after
+reply_of (Ok None) = finished
+reply_of (Err next.TooLong) = refuses refusal.over_long limit 0
+reply_of (Err (next.NoRoom text)) = refuses refusal.too_few 1 text
 
 -- a reply, and what the text memory then holds
 pub record Replied : Type 0 where

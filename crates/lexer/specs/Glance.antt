@@ -1,5 +1,5 @@
 -- Items that one look tells: what a quick answer says of the item that starts at a place.
-use Rattle.std.specs.Prelude.{ℕ, ◌+◌, ◌≤◌, ◌<◌, ◌≡◌, Bool, false, ◌&&◌, List, [], ◌∷◌, length, get_or, eqb}
+use Rattle.std.specs.Prelude.{ℕ, ◌+◌, ◌≤◌, ◌<◌, ◌≡◌, Bool, false, ◌&&◌, List, [], ◌∷◌, length, get_or, eqb, None, Option, Some}
 use Rattle.laws.specs.Quoted.{code}
 use Rattle.items.specs.Kinds as kind
 use Rattle.items.specs.Classes.{delim_of, first_of, after_hash}
@@ -15,8 +15,6 @@ use Rattle.items.specs.declared.Phase.{Phase}
 use Rattle.items.specs.declared.Phase.TheVariants as ph
 use Rattle.steps.specs.Scan.{part, answer}
 use Rattle.steps.specs.Ended.{EndsAs}
-use Rattle.steps.specs.declared.Ending.{Ending}
-use Rattle.steps.specs.declared.Ending.TheVariants as ending
 use Rattle.meaning.specs.declared.Means.{Means}
 use Rattle.lexer.specs.Inner.{First}
 use Rattle.items_telling.specs.Tells.{Alone, Level, quoted_kind}
@@ -39,9 +37,9 @@ pub record Worded (s : List ℕ) (at next : ℕ) : Type 0 where
   pub other : get_or s at 0 ≡ code "+" → ⊥
 
 -- the same, and where it ends
-abbrev pub WordedTo : List ℕ → ℕ → Ending → Type 0
-WordedTo s at (ending.At e) = (next : ℕ) × (Worded s at next × ((report : Bool) → EndsAs s report ph.InWord Word next (ending.At e)))
-WordedTo s at ending.Unknown = Unit
+abbrev pub WordedTo : List ℕ → ℕ → Option ℕ → Type 0
+WordedTo s at (Some e) = (next : ℕ) × (Worded s at next × ((report : Bool) → EndsAs s report ph.InWord Word next (Some e)))
+WordedTo s at None = Unit
 
 -- a quote stands at a place, which such a quote closes, and what is wholly in them has a kind
 pub record Quoting (s : List ℕ) (at quote kind : ℕ) : Type 0 where
@@ -97,6 +95,6 @@ GlanceAt s report skip at Other = Unit
 
 -- ---- where an item ends, whatever it means
 
-abbrev pub SkimAt : List ℕ → Bool → Bool → ℕ → Ending → Type 0
-SkimAt s report skip at (ending.At e) = (m : Means) × Glanced s report skip at e m
-SkimAt s report skip at ending.Unknown = Unit
+abbrev pub SkimAt : List ℕ → Bool → Bool → ℕ → Option ℕ → Type 0
+SkimAt s report skip at (Some e) = (m : Means) × Glanced s report skip at e m
+SkimAt s report skip at None = Unit

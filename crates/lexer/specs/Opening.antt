@@ -1,17 +1,15 @@
 -- Where reading starts, and what it is refused for. Document 01: the reader "opens under 25, 20, 21".
-use Rattle.std.specs.Prelude.{ℕ, ◌+◌, Bool, false, List, [], ◌∷◌, length, eqb, ltb, if◌then◌else◌}
+use Rattle.std.specs.Prelude.{ℕ, ◌+◌, Bool, false, List, [], ◌∷◌, length, eqb, ltb, if◌then◌else◌, None, Option, Some, Result, Ok, Err}
 use Rattle.laws.specs.Quoted.{code}
 use Rattle.refusal.specs.Refusals as refusal
 use Rattle.chars.specs.Utf8.{chars, first_bad}
 use Rattle.chars.specs.Encode.{width}
-use Rattle.chars.specs.declared.Utf8.{Utf8}
-use Rattle.chars.specs.declared.Utf8.TheVariants.{Good, Bad}
 use Rattle.items.specs.Items.{unset}
 use Rattle.items.specs.Whole.{limit, is_mode, in_report}
 use Rattle.meaning.specs.Places.{range_of}
 use Rattle.lexer.specs.declared.Position.{Position}
-use Rattle.lexer.specs.declared.OpenAnswer.{OpenAnswer}
-use Rattle.lexer.specs.declared.OpenAnswer.TheVariants.{Opened, NoMode, TooLong, NotUtf8}
+use Rattle.lexer.specs.declared.OpenError.{OpenError}
+use Rattle.lexer.specs.declared.OpenError.TheVariants.{NoMode, TooLong, NotUtf8}
 
 -- the place of the first newline, or of the end
 unfoldable pub line_end : ℕ → List ℕ → ℕ
@@ -40,15 +38,15 @@ pub data Opening : Type 0 where
   refused : ℕ → ℕ → Opening
 
 -- what each answer means
-abbrev pub opening_of : OpenAnswer → Opening
-opening_of (Opened p) = opened p
-opening_of (NoMode m) = refused refusal.no_such_mode m
-opening_of TooLong = refused refusal.over_long limit
-opening_of (NotUtf8 p) = refused refusal.not_utf8 p
+abbrev pub opening_of : Result Position OpenError → Opening
+opening_of (Ok p) = opened p
+opening_of (Err (NoMode m)) = refused refusal.no_such_mode m
+opening_of (Err TooLong) = refused refusal.over_long limit
+opening_of (Err (NotUtf8 p)) = refused refusal.not_utf8 p
 
-abbrev pub if_utf8 : Utf8 → Position → Opening
-if_utf8 Good p = opened p
-if_utf8 (Bad at) p = refused refusal.not_utf8 at
+abbrev pub if_utf8 : Option ℕ → Position → Opening
+if_utf8 None p = opened p
+if_utf8 (Some at) p = refused refusal.not_utf8 at
 
 -- 25, 20, 21 in that order
 unfoldable pub open_of : List ℕ → ℕ → Bool → Opening

@@ -1,20 +1,19 @@
 -- One item a turn: what stands at a spot of a source, and where reading goes on. Spot and turn are defined for every source and every
 -- spot, one that no call gave too: the characters from a place on are those up to the end or the first bad sequence.
-use Rattle.std.specs.Prelude.{ℕ, zero, suc, ◌+◌, ◌-◌, ◌*◌, Bool, true, false, ◌&&◌, List, [], ◌∷◌, length, drop, eqb, if◌then◌else◌}
+use Rattle.std.specs.Prelude.{ℕ, zero, suc, ◌+◌, ◌-◌, ◌*◌, Bool, true, false, ◌&&◌, List, [], ◌∷◌, length, drop, eqb, if◌then◌else◌, None, Option, Some}
 use Rattle.chars.specs.Utf8.{chars}
 use Rattle.chars.specs.Encode.{width}
 use Rattle.chars.specs.Blank.{is_blank}
 use Rattle.items.specs.Kinds as kind
 use Rattle.items.specs.declared.Outcome.{Outcome}
+use Rattle.items.specs.declared.Nine.{Nine}
 use Rattle.items.specs.Readers.{SoFar, Read, read_item}
 use Rattle.items.specs.Items.{Place, range_after, Item, extent_items}
 use Rattle.meaning.specs.Places.{place_in, range_of}
 use Rattle.meaning.specs.Records.{packed}
 use Rattle.lexer.specs.declared.Spot.{Spot}
 use Rattle.lexer.specs.declared.FirstChar.{FirstChar}
-use Rattle.lexer.specs.declared.FirstChar.TheVariants.{At, Nothing}
 use Rattle.lexer.specs.declared.Found.{Found}
-use Rattle.lexer.specs.declared.Found.TheVariants.{One, End}
 
 -- what reading on from a spot gives: an item and the spot after it, or the end
 pub data Turn : Type 0 where
@@ -84,11 +83,17 @@ all_items source p = all_from (suc (size_of source p)) source p
 -- ---- as the code hands it on
 
 -- the first character that is no blank, where it stands, and the place past it
-unfoldable pub start_from : ℕ → List ℕ → FirstChar
-start_from at [] = Nothing
-start_from at (c ∷ cs) = let more = start_from (at + width c) cs in if is_blank c then more else At c at (at + width c)
+abbrev pub first_at : ℕ → ℕ → ℕ → Option FirstChar
+first_at c at next = Some (record { code = c; at = at; past = next })
+
+unfoldable pub start_from : ℕ → List ℕ → Option FirstChar
+start_from at [] = None
+start_from at (c ∷ cs) = let more = start_from (at + width c) cs in if is_blank c then more else first_at c at (at + width c)
 
 -- an item by itself; `free` is the first free byte of the text memory
-abbrev pub found_of : ℕ → Turn → Found
-found_of free (gives i p) = One (packed free i) p
-found_of free ends = End
+abbrev pub one_found : Nine → Spot → Option Found
+one_found r p = Some (record { nine = r; after = p })
+
+abbrev pub found_of : ℕ → Turn → Option Found
+found_of free (gives i p) = one_found (packed free i) p
+found_of free ends = None

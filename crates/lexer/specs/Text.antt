@@ -1,6 +1,7 @@
 -- The text call: the text of a record, as a part of the source or of the text memory. Document 01: it "answers from the source or the
 -- text memory, as the record says; otherwise 27 and an empty part".
-use Rattle.std.specs.Prelude.{ℕ, ◌-◌, List, [], eqb, leb, length, take, drop, if◌then◌else◌}
+use Rattle.std.specs.Prelude.{ℕ, ◌-◌, ◌≡◌, List, [], eqb, leb, length, take, drop, if◌then◌else◌, None, Option, Some}
+use Rattle.std.specs.Borrow.{Bor}
 use Rattle.refusal.specs.Refusals as refusal
 
 -- a where the places neither go back nor pass the slice l, else b
@@ -21,3 +22,8 @@ text_in source text k from to = by_source k (part_of source from to) (part_of te
 -- 27: "a text source not 1 or 2, or text places that go back or pass that slice"; else 0
 unfoldable pub text_mark : List ℕ → List ℕ → ℕ → ℕ → ℕ → ℕ
 text_mark source text k from to = by_source k (within source from to 0 refusal.out_of_bounds) (within text from to 0 refusal.out_of_bounds) refusal.out_of_bounds
+
+-- a part of memory is the text that the record tells, or there is none and the mark is 27
+abbrev pub LentAs : List ℕ → List ℕ → ℕ → ℕ → ℕ → Option (Bor (List ℕ)) → Type 0
+LentAs source text k from to (Some part) = (part.now ≡ text_in source text k from to) × (text_mark source text k from to ≡ 0)
+LentAs source text k from to None = (text_in source text k from to ≡ []) × (text_mark source text k from to ≡ refusal.out_of_bounds)

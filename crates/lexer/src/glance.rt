@@ -1,9 +1,8 @@
 // Items that one look tells: a bracket, a quote mark, and a word, a number, a character, a string or a comment that the next bytes show to
 // be no more than that. Any other is for `next_item`, which reads them all. The text is good UTF-8, so that in quotes and in comments no
 // character is looked at but what may end them.
-ghost use Rattle.std.specs.Prelude.{◌≡◌, Bool, true, ◌+◌, ◌≤◌, ◌<◌, length, get_or, drop};
+ghost use Rattle.std.specs.Prelude.{◌≡◌, Bool, true, ◌+◌, ◌≤◌, ◌<◌, length, get_or, drop, None};
 ghost use Rattle.chars.specs.Utf8.{first_bad};
-ghost use Rattle.chars.specs.declared.Utf8.TheVariants.{Good};
 ghost use Rattle.items.specs.Classes.{in_hash, stops_hash};
 ghost use Rattle.items.specs.Whole.{limit};
 ghost use Rattle.items.specs.declared.Phase.TheVariants.{InWord, InRun, InLine};
@@ -17,7 +16,7 @@ use chars::letter_at;
 use items::{BOOLEAN_LENGTH, CHARACTER_MARK, QUOTE_LENGTH, kinds};
 use items_telling::{Quick, bare, named, tell_run, tell_word};
 use meaning::{Means, Text};
-use steps::{Ending, line_ending, nested_ending, quoted_ending, run_ending, word_ending};
+use steps::{line_ending, nested_ending, quoted_ending, run_ending, word_ending};
 
 // From it on bytes begin characters past ASCII; so does C2, but that begins blanks.
 const WIDE_FIRST: u8 = 0xC3;
@@ -46,8 +45,8 @@ fn quick_word(source: &[u8], at: usize) -> Quick
     ensures { (report skip : Bool) → GlanceAt source.now report skip at result }
 {
     match word_ending(source, at + 1) {
-        Ending::At(end) => tell_word(at, end, &source[at..end]),
-        Ending::Unknown => Quick::Other,
+        Some(end) => tell_word(at, end, &source[at..end]),
+        None => Quick::Other,
     }
 }
 
@@ -57,34 +56,34 @@ fn quick_run(source: &[u8], report: bool, at: usize) -> Quick
     ensures { (skip : Bool) → GlanceAt source.now report skip at result }
 {
     match run_ending(source, report, at + 1) {
-        Ending::At(end) => tell_run(at, end, &source[at..end]),
-        Ending::Unknown => Quick::Other,
+        Some(end) => tell_run(at, end, &source[at..end]),
+        None => Quick::Other,
     }
 }
 
 // A string, or a word in vertical lines, that starts at a place, by its quote and its kind.
 fn quick_quoted(source: &[u8], quote: u8, kind: u32, at: usize) -> Quick
-    requires { (length source.now ≤ limit) × Quoting source.now at quote kind × (first_bad (drop (at + 1) source.now) ≡ Good) }
+    requires { (length source.now ≤ limit) × Quoting source.now at quote kind × (first_bad (drop (at + 1) source.now) ≡ None) }
     ensures { (report skip : Bool) → GlanceAt source.now report skip at result }
 {
     let from = at + QUOTE_LENGTH;
     match quoted_ending(source, from, quote) {
-        Ending::At(end) => named(kind, at, end, from, end - QUOTE_LENGTH),
-        Ending::Unknown => Quick::Other,
+        Some(end) => named(kind, at, end, from, end - QUOTE_LENGTH),
+        None => Quick::Other,
     }
 }
 
 // A comment to the end of its line that starts at a place, where comments are kept.
 fn quick_line(source: &[u8], skip: bool, at: usize) -> Quick
-    requires { (length source.now ≤ limit) × Begins source.now at (at + 1) InLine × (first_bad (drop (at + 1) source.now) ≡ Good) }
+    requires { (length source.now ≤ limit) × Begins source.now at (at + 1) InLine × (first_bad (drop (at + 1) source.now) ≡ None) }
     ensures { (report : Bool) → GlanceAt source.now report skip at result }
 {
     if skip {
         return Quick::Other;
     }
     match line_ending(source, at + 1) {
-        Ending::At(end) => bare(kinds::COMMENT, kinds::NO_DETAIL, at, end),
-        Ending::Unknown => Quick::Other,
+        Some(end) => bare(kinds::COMMENT, kinds::NO_DETAIL, at, end),
+        None => Quick::Other,
     }
 }
 
@@ -92,13 +91,7 @@ fn quick_line(source: &[u8], skip: bool, at: usize) -> Quick
 fn ends_hash(b: u8) -> bool
     ensures { result ≡ true → (b < 0x80) × (in_hash b ≡ stops_hash) }
 {
-    match b {
-        b')' => true,
-        b']' => true,
-        b' ' => true,
-        b'\n' => true,
-        _ => false,
-    }
+    matches!(b, b')' | b']' | b' ' | b'\n')
 }
 
 // A boolean of one letter that starts at a place.
@@ -137,21 +130,21 @@ fn quick_character(source: &[u8], at: usize) -> Quick
 
 // A nested comment that starts at a place, where comments are kept.
 fn quick_nested(source: &[u8], skip: bool, at: usize) -> Quick
-    requires { (length source.now ≤ limit) × Nests source.now at × (first_bad source.now ≡ Good) }
+    requires { (length source.now ≤ limit) × Nests source.now at × (first_bad source.now ≡ None) }
     ensures { (report : Bool) → GlanceAt source.now report skip at result }
 {
     if skip {
         return Quick::Other;
     }
     match nested_ending(source, at + NEST_LENGTH) {
-        Ending::At(end) => bare(kinds::COMMENT, kinds::NO_DETAIL, at, end),
-        Ending::Unknown => Quick::Other,
+        Some(end) => bare(kinds::COMMENT, kinds::NO_DETAIL, at, end),
+        None => Quick::Other,
     }
 }
 
 // What a number sign begins, by the byte after it.
 fn quick_hash(source: &[u8], skip: bool, at: usize) -> Quick
-    requires { (length source.now ≤ limit) × Sharp source.now at × (first_bad source.now ≡ Good) }
+    requires { (length source.now ≤ limit) × Sharp source.now at × (first_bad source.now ≡ None) }
     ensures { (report : Bool) → GlanceAt source.now report skip at result }
 {
     let next = at + 1;
@@ -170,7 +163,7 @@ fn quick_hash(source: &[u8], skip: bool, at: usize) -> Quick
 
 // The item that starts at a place, by its first byte.
 pub fn quick_at(source: &[u8], report: bool, skip: bool, at: usize) -> Quick
-    requires { (length source.now ≤ limit) × (at < length source.now) × (first_bad source.now ≡ Good) }
+    requires { (length source.now ≤ limit) × (at < length source.now) × (first_bad source.now ≡ None) }
     ensures { GlanceAt source.now report skip at result }
 {
     match source[at] {
@@ -217,16 +210,16 @@ fn rare_start(source: &[u8], at: usize) -> usize
 }
 
 // The end of such a word.
-fn rare_ending(source: &[u8], at: usize) -> Ending
+fn rare_ending(source: &[u8], at: usize) -> Option<usize>
     requires { (length source.now ≤ limit) × (at < length source.now) }
     ensures { WordedTo source.now at result }
 {
     if !begins_rare(source[at]) {
-        return Ending::Unknown;
+        return None;
     }
     let next = rare_start(source, at);
     if next <= at {
-        return Ending::Unknown;
+        return None;
     }
     word_ending(source, next)
 }
@@ -237,15 +230,15 @@ fn rare_word(source: &[u8], at: usize) -> Quick
     ensures { (report skip : Bool) → GlanceAt source.now report skip at result }
 {
     match rare_ending(source, at) {
-        Ending::At(end) => tell_word(at, end, &source[at..end]),
-        Ending::Unknown => Quick::Other,
+        Some(end) => tell_word(at, end, &source[at..end]),
+        None => Quick::Other,
     }
 }
 
 // What is told after all others: such a word, one in vertical lines, and a number that begins with a minus sign. It is asked for where
 // `quick_at` tells nothing: were these arms there, the compiler would make slower code of all arms.
 pub fn quick_rare(source: &[u8], report: bool, at: usize) -> Quick
-    requires { (length source.now ≤ limit) × (at < length source.now) × (first_bad source.now ≡ Good) }
+    requires { (length source.now ≤ limit) × (at < length source.now) × (first_bad source.now ≡ None) }
     ensures { (skip : Bool) → GlanceAt source.now report skip at result }
 {
     match source[at] {
@@ -256,31 +249,31 @@ pub fn quick_rare(source: &[u8], report: bool, at: usize) -> Quick
 }
 
 // The end of a comment to the end of its line that starts at a place, where comments are kept.
-fn skim_line(source: &[u8], skip: bool, at: usize) -> Ending
-    requires { (length source.now ≤ limit) × Begins source.now at (at + 1) InLine × (first_bad (drop (at + 1) source.now) ≡ Good) }
+fn skim_line(source: &[u8], skip: bool, at: usize) -> Option<usize>
+    requires { (length source.now ≤ limit) × Begins source.now at (at + 1) InLine × (first_bad (drop (at + 1) source.now) ≡ None) }
     ensures { (report : Bool) → SkimAt source.now report skip at result }
 {
     if skip {
-        return Ending::Unknown;
+        return None;
     }
     line_ending(source, at + 1)
 }
 
 // The end of what a number sign begins.
-fn skim_hash(source: &[u8], skip: bool, at: usize) -> Ending
-    requires { (length source.now ≤ limit) × Sharp source.now at × (first_bad source.now ≡ Good) }
+fn skim_hash(source: &[u8], skip: bool, at: usize) -> Option<usize>
+    requires { (length source.now ≤ limit) × Sharp source.now at × (first_bad source.now ≡ None) }
     ensures { (report : Bool) → SkimAt source.now report skip at result }
 {
     match quick_hash(source, skip, at) {
-        Quick::Item(_, _, end) => Ending::At(end),
-        Quick::Bracket(_, _, end) => Ending::At(end),
-        Quick::Other => Ending::Unknown,
+        Quick::Item(_, _, end) => Some(end),
+        Quick::Bracket(_, _, end) => Some(end),
+        Quick::Other => None,
     }
 }
 
 // The end of what is told after all others.
-fn skim_rare(source: &[u8], report: bool, at: usize) -> Ending
-    requires { (length source.now ≤ limit) × (at < length source.now) × (first_bad source.now ≡ Good) }
+fn skim_rare(source: &[u8], report: bool, at: usize) -> Option<usize>
+    requires { (length source.now ≤ limit) × (at < length source.now) × (first_bad source.now ≡ None) }
     ensures { (skip : Bool) → SkimAt source.now report skip at result }
 {
     let next = at + 1;
@@ -292,20 +285,20 @@ fn skim_rare(source: &[u8], report: bool, at: usize) -> Ending
 }
 
 // The end of the item that starts at a place, by its first byte: what it means is not asked for.
-pub fn skim_at(source: &[u8], report: bool, skip: bool, at: usize) -> Ending
-    requires { (length source.now ≤ limit) × (at < length source.now) × (first_bad source.now ≡ Good) }
+pub fn skim_at(source: &[u8], report: bool, skip: bool, at: usize) -> Option<usize>
+    requires { (length source.now ≤ limit) × (at < length source.now) × (first_bad source.now ≡ None) }
     ensures { SkimAt source.now report skip at result }
 {
     let next = at + 1;
     match source[at] {
-        b'(' => Ending::At(next),
-        b')' => Ending::At(next),
-        b'[' => Ending::At(next),
-        b']' => Ending::At(next),
-        b'{' => Ending::At(next),
-        b'}' => Ending::At(next),
-        b'\'' => Ending::At(next),
-        b'`' => Ending::At(next),
+        b'(' => Some(next),
+        b')' => Some(next),
+        b'[' => Some(next),
+        b']' => Some(next),
+        b'{' => Some(next),
+        b'}' => Some(next),
+        b'\'' => Some(next),
+        b'`' => Some(next),
         b'a'..=b'z' => word_ending(source, next),
         b'0'..=b'9' => run_ending(source, report, next),
         b'"' => quoted_ending(source, next, b'"'),

@@ -4,6 +4,9 @@
 // defined in specs/ of this crate and in items/specs/Whole.
 #![tactic(auto)]
 
+ghost use Rattle.std.specs.Prelude.{◌≡◌};
+ghost use Rattle.lexer.specs.Answers.{read_error};
+
 use items::{Nine, Phase, Record};
 use meaning::Range;
 
@@ -43,21 +46,19 @@ pub struct Position {
     pub depth: u32,
 }
 
-// The first character of an item.
+// The first character of an item: its code, its place, and the place past it.
 #[derive(Clone, Copy)]
-pub enum FirstChar {
-    // the character, its place, and the place past it
-    At(u32, usize, usize),
-    // only blanks are left
-    Nothing,
+pub struct FirstChar {
+    pub code: u32,
+    pub at: usize,
+    pub past: usize,
 }
 
-// What reading on gives.
+// What reading on gives: an item by itself, and the spot after it.
 #[derive(Clone, Copy)]
-pub enum Found {
-    // an item by itself, and the spot after it
-    One(Nine, Spot),
-    End,
+pub struct Found {
+    pub nine: Nine,
+    pub after: Spot,
 }
 
 // How far counting got: the place, and the items before it.
@@ -82,25 +83,9 @@ pub struct Needed {
     pub text: usize,
 }
 
-// What the whole-text call answers.
+// Why a source is not opened.
 #[derive(Clone, Copy)]
-pub enum ReadAnswer {
-    // how many items were written, and how many bytes of decoded text
-    Served(usize, usize),
-    // 25, with the mode
-    NoMode(u32),
-    // 20
-    TooLong,
-    // 21, with the start of the first bad sequence
-    NotUtf8(usize),
-    // 22, with the items and the text bytes needed
-    NoRoom(usize, usize),
-}
-
-// What opening answers.
-#[derive(Clone, Copy)]
-pub enum OpenAnswer {
-    Opened(Position),
+pub enum OpenError {
     // 25, with the mode
     NoMode(u32),
     // 20
@@ -109,13 +94,42 @@ pub enum OpenAnswer {
     NotUtf8(usize),
 }
 
-// What the reader answers.
+// Why the whole-text call writes nothing.
 #[derive(Clone, Copy)]
-pub enum NextAnswer {
-    // an item, and the position after it
-    Item(Record, Position),
-    // there are no more
-    Finished,
+pub enum ReadError {
+    // 25, with the mode
+    NoMode(u32),
+    // 20
+    TooLong,
+    // 21, with the start of the first bad sequence
+    NotUtf8(usize),
+    // 22, with what the items need
+    NoRoom(Needed),
+}
+
+// What opening refuses the whole-text call refuses too.
+impl From<OpenError> for ReadError {
+    ghost from_gives = { λ e r. r ≡ read_error e };
+
+    fn from(e: OpenError) -> ReadError {
+        match e {
+            OpenError::NoMode(mode) => ReadError::NoMode(mode),
+            OpenError::TooLong => ReadError::TooLong,
+            OpenError::NotUtf8(at) => ReadError::NotUtf8(at),
+        }
+    }
+}
+
+// What the reader gives: the record of an item, and the position after it.
+#[derive(Clone, Copy)]
+pub struct Given {
+    pub item: Record,
+    pub after: Position,
+}
+
+// Why the reader gives nothing.
+#[derive(Clone, Copy)]
+pub enum NextError {
     // 20
     TooLong,
     // 22, with the text bytes needed

@@ -4,8 +4,8 @@ ghost use Rattle.chars.specs.Utf8.{chars};
 ghost use Rattle.items.specs.Whole.{in_report};
 ghost use Rattle.lexer.specs.Opening.{line_end, after_hash, start_of, opening, opening_of, open_of};
 
-use crate::{OpenAnswer, Position, Spot};
-use chars::{Decoded, Utf8, decode_at, first_bad};
+use crate::{OpenError, Position, Spot};
+use chars::{Decoded, decode_at, first_bad};
 use items::modes::REPORT;
 use meaning::Range;
 use refusal::LIMIT;
@@ -22,25 +22,13 @@ fn line_end(source: &[u8], from: usize) -> usize
     ensures { result ≡ line_end from (chars (drop from source.now)) }
 {
     let mut at = from;
-    loop {
-        match decode_at(source, at) {
-            Decoded::Char { code, next } => {
-                if code == NEWLINE {
-                    return at;
-                }
-                at = next;
-            }
-            Decoded::Bad => {
-                return at;
-            }
-            Decoded::Cut => {
-                return at;
-            }
-            Decoded::End => {
-                return at;
-            }
+    while let Decoded::Char { code, next } = decode_at(source, at) {
+        if code == NEWLINE {
+            return at;
         }
+        at = next;
     }
+    at
 }
 
 // Where reading starts after a # that begins the text and ends here.
@@ -55,9 +43,7 @@ fn after_hash(source: &[u8], at: usize) -> usize
             }
             0
         }
-        Decoded::Bad => 0,
-        Decoded::Cut => 0,
-        Decoded::End => 0,
+        _ => 0,
     }
 }
 
@@ -72,9 +58,7 @@ fn start_of(source: &[u8]) -> usize
             }
             0
         }
-        Decoded::Bad => 0,
-        Decoded::Cut => 0,
-        Decoded::End => 0,
+        _ => 0,
     }
 }
 
@@ -98,17 +82,17 @@ pub fn start(source: &[u8], mode: u32, skip: bool) -> Position
 }
 
 // Opens a source for reading one item a call: a position to read on from, or a refusal.
-pub fn open(source: &[u8], mode: u32, skip: bool) -> OpenAnswer
+pub fn open(source: &[u8], mode: u32, skip: bool) -> Result<Position, OpenError>
     ensures { opening_of result ≡ open_of source.now mode skip }
 {
     if REPORT < mode {
-        return OpenAnswer::NoMode(mode);
+        return Err(OpenError::NoMode(mode));
     }
     if LIMIT < source.len() {
-        return OpenAnswer::TooLong;
+        return Err(OpenError::TooLong);
     }
     match first_bad(source) {
-        Utf8::Good => OpenAnswer::Opened(start(source, mode, skip)),
-        Utf8::Bad(at) => OpenAnswer::NotUtf8(at),
+        None => Ok(start(source, mode, skip)),
+        Some(at) => Err(OpenError::NotUtf8(at)),
     }
 }

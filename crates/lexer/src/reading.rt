@@ -8,8 +8,7 @@ ghost use Rattle.items.specs.Items.{place_of, range_after, standing};
 ghost use Rattle.items.specs.Whole.{limit};
 ghost use Rattle.meaning.specs.Places.{place_in, range_of, reach, reach_from};
 ghost use Rattle.meaning.specs.Records.{nine_for, TextFits};
-ghost use Rattle.lexer.specs.declared.Found.TheVariants.{One};
-ghost use Rattle.lexer.specs.Reading.{moved, turn_of, turn, next_at, start_from, found_of};
+ghost use Rattle.lexer.specs.Reading.{moved, turn_of, turn, next_at, start_from, one_found, found_of};
 ghost use Rattle.lexer.specs.Inner.{ExtentFits};
 ghost use Rattle.lexer.specs.Begun.{Stands, BegunAs};
 
@@ -58,14 +57,11 @@ fn past_more(source: &[u8], from: usize) -> usize
     ensures { (from ≤ result) × (start_from result (chars (drop result source.now)) ≡ start_from from (chars (drop from source.now))) }
 {
     let mut at = from;
-    let mut n: usize = 0;
-    while n < FEW {
-        if blank_at(source, at) {
-            at += 1;
-            n += 1;
-        } else {
+    for _ in 0..FEW {
+        if !blank_at(source, at) {
             return at;
         }
+        at += 1;
     }
     blank_end(source, at)
 }
@@ -85,30 +81,21 @@ pub fn past_blanks(source: &[u8], at: usize) -> usize
 }
 
 // The first character from a place on that is no blank.
-pub fn consume_whitespace(source: &[u8], from: usize) -> FirstChar
+pub fn consume_whitespace(source: &[u8], from: usize) -> Option<FirstChar>
     ensures { result ≡ start_from from (chars (drop from source.now)) }
 {
     let mut at = from;
-    loop {
-        match decode_at(source, at) {
-            Decoded::Char { code, next } => {
-                if is_blank(code) {
-                    at = past_spaces(source, next);
-                } else {
-                    return FirstChar::At(code, at, next);
-                }
-            }
-            Decoded::Bad => {
-                return FirstChar::Nothing;
-            }
-            Decoded::Cut => {
-                return FirstChar::Nothing;
-            }
-            Decoded::End => {
-                return FirstChar::Nothing;
-            }
+    while let Decoded::Char { code, next } = decode_at(source, at) {
+        if !is_blank(code) {
+            return Some(FirstChar {
+                code: code,
+                at: at,
+                past: next,
+            });
         }
+        at = past_spaces(source, next);
     }
+    None
 }
 
 // Past an extent that ends here, with the last error range then.
@@ -119,8 +106,7 @@ pub fn past(p: Spot, at: usize, last: Range) -> Spot
         at: at,
         last: last,
         second: false,
-        report: p.report,
-        skip: p.skip,
+        ..p
     }
 }
 
@@ -128,25 +114,29 @@ pub fn past(p: Spot, at: usize, last: Range) -> Spot
 pub fn stand(p: Spot, at: usize, second: bool) -> Spot
     ensures { result ≡ moved p at (place_in p.last) second }
 {
-    let last = p.last;
     Spot {
         at: at,
-        last: last,
         second: second,
-        report: p.report,
-        skip: p.skip,
+        ..p
     }
 }
 
 // The item of a meaning, and the spot after it.
-fn one(report: bool, m: Means, extent: Range, last: Range, free: usize, after: Spot) -> Found
+fn one(
+    report: bool,
+    m: Means,
+    extent: Range,
+    last: Range,
+    free: usize,
+    after: Spot,
+) -> Option<Found>
     requires { TextFits free m.text }
-    ensures { result ≡ One (nine_for free m extent (range_of (place_of report m.kind (place_in last) (place_in extent)))) after }
+    ensures { result ≡ one_found (nine_for free m extent (range_of (place_of report m.kind (place_in last) (place_in extent)))) after }
 {
-    Found::One(
-        nine_of(m, extent, place(report, m.kind, last, extent), free),
-        after,
-    )
+    Some(Found {
+        nine: nine_of(m, extent, place(report, m.kind, last, extent), free),
+        after: after,
+    })
 }
 
 // The range that an error's place is taken from, where `last` is the last one after the extent: in plain mode they are the same.
@@ -162,7 +152,7 @@ fn shown(p: Spot, what: Outcome, extent: Range, last: Range, raw: &[u8]) -> Rang
 }
 
 // What an extent gives, by its outcome, its first place and its bytes.
-fn found(p: Spot, free: usize, start: usize, what: Outcome, raw: &[u8]) -> Found
+fn found(p: Spot, free: usize, start: usize, what: Outcome, raw: &[u8]) -> Option<Found>
     requires { ExtentFits p.report free start raw.now what }
     ensures { result ≡ found_of free (turn_of p start what (so_far raw.now (start + length raw.now))) }
 {
@@ -193,13 +183,20 @@ fn begin_at(source: &[u8], at: usize) -> Beginning
         return begin_string(source, at);
     }
     match consume_whitespace(source, at) {
-        FirstChar::At(code, start, next) => Beginning::At(start, next, first_phase(code)),
-        FirstChar::Nothing => Beginning::Nothing,
+        Some(first) => Beginning::At(first.at, first.past, first_phase(first.code)),
+        None => Beginning::Nothing,
     }
 }
 
 // The item at a spot that starts at a place and stands in a phase at another.
-fn item_at(source: &[u8], p: Spot, free: usize, at: usize, from: usize, phase: Phase) -> Found
+fn item_at(
+    source: &[u8],
+    p: Spot,
+    free: usize,
+    at: usize,
+    from: usize,
+    phase: Phase,
+) -> Option<Found>
     requires { (length source.now ≤ limit) × (free ≤ p.at) × Stands source.now p.at at from phase }
     ensures { result ≡ found_of free (turn source.now p) }
 {
@@ -210,35 +207,28 @@ fn item_at(source: &[u8], p: Spot, free: usize, at: usize, from: usize, phase: P
 }
 
 // The item at a spot, comments too.
-fn turn_at(source: &[u8], p: Spot, free: usize) -> Found
+fn turn_at(source: &[u8], p: Spot, free: usize) -> Option<Found>
     requires { (length source.now ≤ limit) × (free ≤ p.at) }
     ensures { result ≡ found_of free (turn source.now p) }
 {
     match begin_at(source, p.at) {
         Beginning::At(at, from, phase) => item_at(source, p, free, at, from, phase),
         Beginning::Wrong(end) => wrong(source, p, end),
-        Beginning::Nothing => Found::End,
+        Beginning::Nothing => None,
     }
 }
 
 // The next item from a spot on. Decoded text goes to the place `free` of the text memory.
-pub fn next_item(source: &[u8], spot: Spot, free: usize) -> Found
+pub fn next_item(source: &[u8], spot: Spot, free: usize) -> Option<Found>
     requires { (length source.now ≤ limit) × (free ≤ spot.at) }
     ensures { result ≡ found_of free (next_at source.now spot) }
 {
     let mut p = spot;
-    loop {
-        match turn_at(source, p, free) {
-            Found::One(nine, q) => {
-                if skips(p.skip, nine.kind) {
-                    p = q;
-                } else {
-                    return Found::One(nine, q);
-                }
-            }
-            Found::End => {
-                return Found::End;
-            }
+    while let Some(found) = turn_at(source, p, free) {
+        if !skips(p.skip, found.nine.kind) {
+            return Some(found);
         }
+        p = found.after;
     }
+    None
 }

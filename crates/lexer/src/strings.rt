@@ -38,7 +38,7 @@ pub fn begin_string(source: &[u8], at: usize) -> Beginning
 }
 
 // The error at a spot that ends at a place: it points at the backslash before and at the character there, and it has no text.
-pub fn wrong(source: &[u8], p: Spot, end: usize) -> Found
+pub fn wrong(source: &[u8], p: Spot, end: usize) -> Option<Found>
     requires { (length source.now ≤ limit) × WrongAt source.now p.at end }
     ensures { (free : ℕ) → result ≡ found_of free (turn source.now p) }
 {
@@ -56,5 +56,8 @@ pub fn wrong(source: &[u8], p: Spot, end: usize) -> Found
         detail: b as u32,
         text: Text::Nowhere,
     };
-    Found::One(nine_of(m, extent, range, 0), past(p, end, range))
+    Some(Found {
+        nine: nine_of(m, extent, range, 0),
+        after: past(p, end, range),
+    })
 }

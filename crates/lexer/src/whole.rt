@@ -1,8 +1,7 @@
 // The whole-text call: all items of a source, counted first where they might not fit, then written.
-ghost use Rattle.std.specs.Prelude.{◌≡◌, ◌*◌, ◌/◌, ◌^◌, ◌≤◌, ◌<◌, length};
+ghost use Rattle.std.specs.Prelude.{◌≡◌, ◌*◌, ◌/◌, ◌^◌, ◌≤◌, ◌<◌, length, None};
 ghost use Rattle.laws.specs.Lent.{written};
 ghost use Rattle.chars.specs.Utf8.{first_bad};
-ghost use Rattle.chars.specs.declared.Utf8.TheVariants.{Good};
 ghost use Rattle.items.specs.Items.{range, records, record_words, texts};
 ghost use Rattle.items.specs.Whole.{call, deliver, limit, read_of};
 ghost use Rattle.meaning.specs.Places.{range_of};
@@ -15,14 +14,13 @@ ghost use Rattle.lexer.specs.Writing.{Counts, Further, Amid, ToldOn, told_to};
 use crate::glance::{quick_at, quick_rare, skim_at};
 use crate::opening::{OUTSIDE, open};
 use crate::reading::{next_item, past_blanks, stand};
-use crate::{CountedTo, Found, Needed, OpenAnswer, ReadAnswer, Spot, Wrote};
+use crate::{CountedTo, Needed, ReadError, Spot, Wrote};
 use escapes::decode;
 use items::kinds::{IN_MEMORY, STRING_LITERAL};
 use items::{Nine, QUOTE_LENGTH, Quotes, RECORD_WORDS, Record};
 use items_telling::Quick;
 use meaning::records::{depth_after, nine_of, put};
 use meaning::{Means, Range};
-use steps::Ending;
 
 // The quotes of an item with decoded text, by its kind.
 fn quotes(kind: u32) -> Quotes
@@ -59,18 +57,18 @@ pub fn put_text(source: &[u8], r: Nine, free: &mut [u8])
 // Counts the items from a spot on, behind those counted before, as far as one look tells where each ends: none has a decoded text. Where it
 // stops there is no blank of ASCII.
 fn count_told(source: &[u8], p: Spot, from: usize) -> CountedTo
-    requires { (length source.now ≤ limit) × Counts source.now p from × (first_bad source.now ≡ Good) }
+    requires { (length source.now ≤ limit) × Counts source.now p from × (first_bad source.now ≡ None) }
     ensures { Further source.now p from (told_to p result.at from result.items) result.items }
 {
     let mut n = from;
     let mut at = past_blanks(source, p.at);
     while at < source.len() {
         match skim_at(source, p.report, p.skip, at) {
-            Ending::At(end) => {
+            Some(end) => {
                 n += 1;
                 at = past_blanks(source, end);
             }
-            Ending::Unknown => {
+            None => {
                 return CountedTo { at: at, items: n };
             }
         }
@@ -90,7 +88,7 @@ fn spot_past(p: Spot, at: usize, before: usize, now: usize) -> Spot
 
 // The items from a spot on of a good text, and the bytes of their decoded texts.
 pub fn count(source: &[u8], spot: Spot) -> Needed
-    requires { (length source.now ≤ limit) × (first_bad source.now ≡ Good) }
+    requires { (length source.now ≤ limit) × (first_bad source.now ≡ None) }
     ensures { result ≡ needed_of (all_items source.now spot) }
 {
     let mut p = spot;
@@ -106,19 +104,15 @@ pub fn count(source: &[u8], spot: Spot) -> Needed
         }
         p = spot_past(p, told.at, n, told.items);
         n = told.items;
-        match next_item(source, p, free) {
-            Found::One(r, q) => {
-                n = n + 1;
-                free = free_after(free, r);
-                p = q;
-            }
-            Found::End => {
-                return Needed {
-                    items: n,
-                    text: free,
-                };
-            }
-        }
+        let Some(found) = next_item(source, p, free) else {
+            return Needed {
+                items: n,
+                text: free,
+            };
+        };
+        n += 1;
+        free = free_after(free, found.nine);
+        p = found.after;
     }
 }
 
@@ -140,7 +134,7 @@ fn record_at(m: Means, start: usize, end: usize, free: usize, depth: u32) -> Rec
 // Writes the records of the items from a spot on, from a word of the records on, as far as one look tells each: none has a decoded text. Where
 // it stops there is no blank of ASCII.
 fn put_told(source: &[u8], p: Spot, recs: &mut [u32], free: usize, from: usize, deep: u32) -> Wrote
-    requires { (length source.now ≤ limit) × Amid source.now p recs.old free deep from × (first_bad source.now ≡ Good) }
+    requires { (length source.now ≤ limit) × Amid source.now p recs.old free deep from × (first_bad source.now ≡ None) }
     ensures { ToldOn source.now p recs.old free deep from result.at recs.new result.depth result.words }
 {
     let mut depth = deep;
@@ -177,7 +171,7 @@ fn put_told(source: &[u8], p: Spot, recs: &mut [u32], free: usize, from: usize, 
 
 // As `put_told`, for what `quick_rare` tells.
 fn put_rare(source: &[u8], p: Spot, recs: &mut [u32], free: usize, from: usize, deep: u32) -> Wrote
-    requires { (length source.now ≤ limit) × Amid source.now p recs.old free deep from × (first_bad source.now ≡ Good) }
+    requires { (length source.now ≤ limit) × Amid source.now p recs.old free deep from × (first_bad source.now ≡ None) }
     ensures { ToldOn source.now p recs.old free deep from result.at recs.new result.depth result.words }
 {
     let mut w = from;
@@ -207,7 +201,7 @@ fn put_rare(source: &[u8], p: Spot, recs: &mut [u32], free: usize, from: usize, 
 
 // As `put_told`, for all that one of the two looks tells.
 fn put_known(source: &[u8], p: Spot, recs: &mut [u32], free: usize, from: usize, deep: u32) -> Wrote
-    requires { (length source.now ≤ limit) × Amid source.now p recs.old free deep from × (first_bad source.now ≡ Good) }
+    requires { (length source.now ≤ limit) × Amid source.now p recs.old free deep from × (first_bad source.now ≡ None) }
     ensures { ToldOn source.now p recs.old free deep from result.at recs.new result.depth result.words }
 {
     let mut got = Wrote {
@@ -250,7 +244,7 @@ fn taken(words: usize, bytes: usize) -> Needed
 
 // Writes the records of the items from a spot on of a good text, and their decoded texts; answers how many records and bytes those are.
 pub fn write(source: &[u8], spot: Spot, recs: &mut [u32], text: &mut [u8]) -> Needed
-    requires source_len_bound { (length source.now ≤ limit) × (first_bad source.now ≡ Good) }
+    requires source_len_bound { (length source.now ≤ limit) × (first_bad source.now ≡ None) }
     requires spot_in_bounds { record_words * length (all_items source.now spot) ≤ length recs.old }
     requires spot_in_bounds_2 { length (texts (all_items source.now spot)) ≤ length text.old }
     ensures value { result ≡ needed_of (all_items source.now spot) }
@@ -269,69 +263,69 @@ pub fn write(source: &[u8], spot: Spot, recs: &mut [u32], text: &mut [u8]) -> Ne
         p = spot_past(p, told.at, w, told.words);
         w = told.words;
         depth = told.depth;
-        match next_item(source, p, free) {
-            Found::One(r, q) => {
-                let row = Record {
-                    nine: r,
-                    depth: depth,
-                };
-                put(&mut recs[w..], row);
-                put_text(source, r, &mut text[free..]);
-                depth = depth_after(r.kind, depth);
-                w = w + RECORD_WORDS;
-                free = free_after(free, r);
-                p = q;
-            }
-            Found::End => {
-                return taken(w, free);
-            }
-        }
+        let Some(found) = next_item(source, p, free) else {
+            return taken(w, free);
+        };
+        let r = found.nine;
+        let row = Record {
+            nine: r,
+            depth: depth,
+        };
+        put(&mut recs[w..], row);
+        put_text(source, r, &mut text[free..]);
+        depth = depth_after(r.kind, depth);
+        w += RECORD_WORDS;
+        free = free_after(free, r);
+        p = found.after;
     }
 }
 
 // The items from a spot on into lent memory, if they fit: they are counted first.
-fn deliver_counted(source: &[u8], spot: Spot, recs: &mut [u32], text: &mut [u8]) -> ReadAnswer
-    requires { (length source.now ≤ limit) × (first_bad source.now ≡ Good) }
+fn deliver_counted(
+    source: &[u8],
+    spot: Spot,
+    recs: &mut [u32],
+    text: &mut [u8],
+) -> Result<Needed, ReadError>
+    requires { (length source.now ≤ limit) × (first_bad source.now ≡ None) }
     ensures { call (answer_of result) recs.new text.new ≡ deliver (all_items source.now spot) recs.old text.old }
 {
     let needed = count(source, spot);
-    let items = needed.items;
-    let bytes = needed.text;
-    if recs.len() / RECORD_WORDS < items {
-        return ReadAnswer::NoRoom(items, bytes);
-    }
-    if text.len() < bytes {
-        return ReadAnswer::NoRoom(items, bytes);
+    if recs.len() / RECORD_WORDS < needed.items || text.len() < needed.text {
+        return Err(ReadError::NoRoom(needed));
     }
     write(source, spot, recs, text);
-    ReadAnswer::Served(items, bytes)
+    Ok(needed)
 }
 
 // The items from a spot on into lent memory, if they fit. Where there is a record and a byte of text memory for each byte of the
 // source they do, and nothing is counted.
-fn deliver(source: &[u8], spot: Spot, recs: &mut [u32], text: &mut [u8]) -> ReadAnswer
-    requires { (length source.now ≤ limit) × Few source.now (all_items source.now spot) × (first_bad source.now ≡ Good) }
+fn deliver(
+    source: &[u8],
+    spot: Spot,
+    recs: &mut [u32],
+    text: &mut [u8],
+) -> Result<Needed, ReadError>
+    requires { (length source.now ≤ limit) × Few source.now (all_items source.now spot) × (first_bad source.now ≡ None) }
     ensures { call (answer_of result) recs.new text.new ≡ deliver (all_items source.now spot) recs.old text.old }
 {
-    if recs.len() / RECORD_WORDS < source.len() {
+    if recs.len() / RECORD_WORDS < source.len() || text.len() < source.len() {
         return deliver_counted(source, spot, recs, text);
     }
-    if text.len() < source.len() {
-        return deliver_counted(source, spot, recs, text);
-    }
-    let done = write(source, spot, recs, text);
-    ReadAnswer::Served(done.items, done.text)
+    Ok(write(source, spot, recs, text))
 }
 
 // All items of a source: their records, and their decoded texts, in lent memory. Mode 0 is plain and 1 report; comments are left out
 // where `skip` is true.
-pub fn read(source: &[u8], mode: u32, skip: bool, recs: &mut [u32], text: &mut [u8]) -> ReadAnswer
+pub fn read(
+    source: &[u8],
+    mode: u32,
+    skip: bool,
+    recs: &mut [u32],
+    text: &mut [u8],
+) -> Result<Needed, ReadError>
     ensures { call (answer_of result) recs.new text.new ≡ read_of source.now mode skip recs.old text.old }
 {
-    match open(source, mode, skip) {
-        OpenAnswer::Opened(position) => deliver(source, position.spot, recs, text),
-        OpenAnswer::NoMode(m) => ReadAnswer::NoMode(m),
-        OpenAnswer::TooLong => ReadAnswer::TooLong,
-        OpenAnswer::NotUtf8(at) => ReadAnswer::NotUtf8(at),
-    }
+    let position = open(source, mode, skip)?;
+    deliver(source, position.spot, recs, text)
 }

@@ -8,7 +8,7 @@ ghost use Rattle.items.specs.Items.{record_words};
 
 use items::RECORD_WORDS;
 use items::modes::{PLAIN, REPORT};
-use lexer::{ReadAnswer, read};
+use lexer::{Needed, ReadError, read};
 use refusal::{LIMIT_VALUE, NO_MODE, NOT_UTF8, SERVED, TOO_FEW, TOO_LONG};
 use std::io;
 
@@ -31,31 +31,29 @@ fn end_line(rt: &impl Print) -> io::Result<()> {
 }
 
 fn show_words(rt: &impl Print, words: &[u32]) -> io::Result<()> {
-    let mut i = 0;
-    while i < words.len() {
-        number(rt, words[i] as u64)?;
-        i += 1;
+    for word in words {
+        number(rt, *word as u64)?;
     }
     end_line(rt)
 }
 
 fn show_bytes(rt: &impl Print, bytes: &[u8]) -> io::Result<()> {
-    let mut i = 0;
-    while i < bytes.len() {
-        number(rt, bytes[i] as u64)?;
-        i += 1;
+    for byte in bytes {
+        number(rt, *byte as u64)?;
     }
     end_line(rt)
 }
 
 // 01's number of an answer, SERVED where there is none, and its two values.
-fn show_answer(rt: &impl Print, answer: ReadAnswer) -> io::Result<()> {
+fn show_answer(rt: &impl Print, answer: Result<Needed, ReadError>) -> io::Result<()> {
     match answer {
-        ReadAnswer::Served(items, text) => show_numbers(rt, SERVED, items as u64, text as u64)?,
-        ReadAnswer::NoMode(mode) => show_numbers(rt, NO_MODE, mode as u64, 0)?,
-        ReadAnswer::TooLong => show_numbers(rt, TOO_LONG, LIMIT_VALUE, 0)?,
-        ReadAnswer::NotUtf8(at) => show_numbers(rt, NOT_UTF8, at as u64, 0)?,
-        ReadAnswer::NoRoom(items, text) => show_numbers(rt, TOO_FEW, items as u64, text as u64)?,
+        Ok(done) => show_numbers(rt, SERVED, done.items as u64, done.text as u64)?,
+        Err(ReadError::NoMode(mode)) => show_numbers(rt, NO_MODE, mode as u64, 0)?,
+        Err(ReadError::TooLong) => show_numbers(rt, TOO_LONG, LIMIT_VALUE, 0)?,
+        Err(ReadError::NotUtf8(at)) => show_numbers(rt, NOT_UTF8, at as u64, 0)?,
+        Err(ReadError::NoRoom(needed)) => {
+            show_numbers(rt, TOO_FEW, needed.items as u64, needed.text as u64)?
+        }
     }
     end_line(rt)
 }

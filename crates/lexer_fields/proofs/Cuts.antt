@@ -1,9 +1,7 @@
 -- UTF-8 at once for all parts: in a source that is UTF-8, a part between two places that lie in no character is UTF-8.
 use Rattle.chars.specs.Utf8.{first_bad}
-use Rattle.chars.specs.declared.Utf8.{Utf8}
-use Rattle.chars.specs.declared.Utf8.TheVariants.{Good, Bad}
 use Rattle.chars.proofs.Cuts.{good_cut}
-use Rattle.std.specs.Prelude.{if◌then◌else◌}
+use Rattle.std.specs.Prelude.{if◌then◌else◌, None, Option, Some}
 use Rattle.laws.specs.Quoted.{within}
 use Rattle.laws.proofs.Choice.{by_bool, no_yes}
 use Rattle.laws.proofs.Places.{here, past}
@@ -31,19 +29,19 @@ between_cons s e ends h = by_bool (continues s e)
     (λ a. (a, rw a at h))
 
 module _ (mode : ℕ) (skip : Bool) where
-  good_mark : (p : List ℕ) → first_bad p ≡ Good → (field_of mode skip p).mark ≡ 0
+  good_mark : (p : List ℕ) → first_bad p ≡ None → (field_of mode skip p).mark ≡ 0
   unfolding field_of
-  good_mark p g = ap (λ (u : Utf8). (field_by u (items_in p mode skip)).mark) g
+  good_mark p g = ap (λ (u : Option ℕ). (field_by u (items_in p mode skip)).mark) g
 
-  mark_good : (p : List ℕ) → (field_of mode skip p).mark ≡ 0 → first_bad p ≡ Good
+  mark_good : (p : List ℕ) → (field_of mode skip p).mark ≡ 0 → first_bad p ≡ None
   unfolding field_of
   mark_good p h = by (first_bad p) refl h
     where
-      by : (u : Utf8) → first_bad p ≡ u → (field_by u (items_in p mode skip)).mark ≡ 0 → first_bad p ≡ Good
-      by Good f z = f
-      by (Bad at) f z = absurd (omega (arith, z))
+      by : (u : Option ℕ) → first_bad p ≡ u → (field_by u (items_in p mode skip)).mark ≡ 0 → first_bad p ≡ None
+      by None f z = f
+      by (Some at) f z = absurd (omega (arith, z))
 
-  parts_good : (s ends : List ℕ) (from : ℕ) → is_in_order (length s) from ends ≡ true → first_bad (drop from s) ≡ Good → between s ends ≡ true
+  parts_good : (s ends : List ℕ) (from : ℕ) → is_in_order (length s) from ends ≡ true → first_bad (drop from s) ≡ None → between s ends ≡ true
       → Unmarked (fields_on mode skip (parts s from ends))
   unfolding fields_on parts
   parts_good s [] from o g b = tt
@@ -59,9 +57,9 @@ module _ (mode : ℕ) (skip : Bool) where
   pub all_known : (s ends : List ℕ) (known : Bool) → is_in_order (length s) 0 ends ≡ true → known ≡ well_cut (first_bad s) (between s ends) → AllKnown known s ends mode skip
   all_known s ends known o q k = by (first_bad s) refl (sym q ∙ k)
     where
-      by : (u : Utf8) → first_bad s ≡ u → well_cut (first_bad s) (between s ends) ≡ true → Unmarked (fields_in s ends mode skip)
-      by Good f h = parts_good s ends 0 o f (sym (ap (λ (v : Utf8). well_cut v (between s ends)) f) ∙ h)
-      by (Bad at) f h = no_yes (sym (ap (λ (v : Utf8). well_cut v (between s ends)) f) ∙ h)
+      by : (u : Option ℕ) → first_bad s ≡ u → well_cut (first_bad s) (between s ends) ≡ true → Unmarked (fields_in s ends mode skip)
+      by None f h = parts_good s ends 0 o f (sym (ap (λ (v : Option ℕ). well_cut v (between s ends)) f) ∙ h)
+      by (Some at) f h = no_yes (sym (ap (λ (v : Option ℕ). well_cut v (between s ends)) f) ∙ h)
 
 unmarked_at : (a : List Field) (f : Field) (b : List Field) → Unmarked (a ++ (f ∷ b)) → f.mark ≡ 0
 unmarked_at [] f b h = h.0

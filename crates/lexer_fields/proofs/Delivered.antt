@@ -8,8 +8,8 @@ use Rattle.lexer_fields.specs.Answers.{total_of, Fine, Room}
 use Rattle.lexer_fields.specs.declared.Total.{Total}
 use Rattle.lexer_fields.proofs.Parts.{fields_length}
 use Rattle.lexer_fields.proofs.Progress.{few}
-use Prim.Native.Nat.{ℕ, ◌*◌, ◌/◌, ◌≤◌, ◌<◌}
-use mathlib.Core.Path.{◌≡◌, refl, sym, ap, ◌∙◌}
+use Prim.Native.Nat.{ℕ, ◌/◌, ◌≤◌, ◌<◌}
+use mathlib.Core.Path.{◌≡◌, ap}
 use mathlib.Core.Bool.{Bool, true, false}
 use mathlib.Core.List.{List}
 use lib.ListN.{length}

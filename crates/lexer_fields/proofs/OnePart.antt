@@ -3,10 +3,8 @@ use Rattle.chars.specs.Utf8.{chars, first_bad}
 use Rattle.chars.specs.Encode.{utf8, bytes_of}
 use Rattle.chars.proofs.Good.{good_bytes_lem}
 use Rattle.laws.specs.Quoted.{code}
-use Rattle.std.specs.Prelude.{if◌then◌else◌}
+use Rattle.std.specs.Prelude.{None, Option, Some}
 use Rattle.laws.proofs.Choice.{by_bool, yes_no}
-use Rattle.chars.specs.declared.Utf8.{Utf8}
-use Rattle.chars.specs.declared.Utf8.TheVariants.{Good, Bad}
 use Rattle.laws.specs.Lent.{written}
 use Rattle.refusal.specs.Refusals as refusal
 use Rattle.items.specs.Items.{Item, record_words, records, texts}
@@ -23,7 +21,7 @@ use Rattle.lexer_fields.specs.declared.PartAnswer.{PartAnswer}
 use Rattle.lexer_fields.proofs.Parts.{first_bad_ahead}
 use Prim.Native.Nat.{ℕ, ◌*◌, ◌≤◌}
 use mathlib.Core.Path.{◌≡◌, refl, sym, ap, ◌∙◌}
-use mathlib.Core.Bool.{Bool, true, false}
+use mathlib.Core.Bool.{Bool, false}
 use mathlib.Core.List.{List, [], ◌∷◌, ◌++◌}
 use lib.ListN.{length, get_or}
 use lib.Dec.{eqb}
@@ -40,7 +38,7 @@ unfolding bytes_of utf8
 hash_first c cs q = ap (λ (x : ℕ). get_or (utf8 x ++ bytes_of cs) 0 0) q
 
 -- a text that does not begin with # has no line to pass over
-pub start_plain : (s : List ℕ) → first_bad s ≡ Good → eqb (get_or s 0 0) (code "#") ≡ false → 0 ≡ start_of (chars s)
+pub start_plain : (s : List ℕ) → first_bad s ≡ None → eqb (get_or s 0 0) (code "#") ≡ false → 0 ≡ start_of (chars s)
 unfolding start_of
 start_plain s g h = by (chars s) refl
   where
@@ -57,12 +55,12 @@ opens_at s mode skip p at e h = e ∙ ap (λ (x : ℕ). spot_at x mode skip) h
 -- ---- what it gives
 
 module _ (s : List ℕ) (mode : ℕ) (skip : Bool) where
-  module _ (g : Good ≡ first_bad s) (p : Spot) (e : p ≡ (opening s (in_report mode) skip).spot) where
+  module _ (g : None ≡ first_bad s) (p : Spot) (e : p ≡ (opening s (in_report mode) skip).spot) where
     is_good_lem : field_of mode skip s ≡ field 0 0 (all_items s p)
     unfolding field_of
     is_good_lem =
         let a : all_items s p ≡ items_in s mode skip = ap (all_items s) e ∙ reads_all s (in_report mode) skip in
-        ap (λ (u : Utf8). field_by u (items_in s mode skip)) (sym g) ∙ ap (field 0 0) (sym a)
+        ap (λ (u : Option ℕ). field_by u (items_in s mode skip)) (sym g) ∙ ap (field 0 0) (sym a)
 
     pub good_items : (field_of mode skip s).items ≡ all_items s p
     good_items = ap (λ (f : Field). f.items) is_good_lem
@@ -80,13 +78,13 @@ module _ (s : List ℕ) (mode : ℕ) (skip : Bool) where
         → (record_words * length (all_items s p) ≤ length recs) × (length (texts (all_items s p)) ≤ length text)
     good_room recs text a b = (omega (arith, ap length good_items), omega (arith, ap (λ (l : List Item). length (texts l)) good_items))
 
-  module _ (at : ℕ) (e : Bad at ≡ first_bad s) where
+  module _ (at : ℕ) (e : Some at ≡ first_bad s) where
     pub bad_short : length s ≤ limit → at ≤ limit
     bad_short short = omega (arith, first_bad_ahead s at (sym e))
 
     is_bad : field_of mode skip s ≡ field refusal.not_utf8 at []
     unfolding field_of
-    is_bad = ap (λ (u : Utf8). field_by u (items_in s mode skip)) (sym e)
+    is_bad = ap (λ (u : Option ℕ). field_by u (items_in s mode skip)) (sym e)
 
     pub bad_part : (r : PartAnswer) → r ≡ part refusal.not_utf8 at 0 0 → r ≡ part_of (field_of mode skip s)
     unfolding texts

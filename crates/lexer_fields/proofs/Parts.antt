@@ -1,17 +1,16 @@
 -- The parts of a source and what they give: how much, and one part after the other.
+use Rattle.std.proofs.Common.{None, Option, Some}
 use Rattle.chars.specs.Utf8.{Front, char, bad, cut, none, front, onward, sequences, verdict, first_bad}
-use Rattle.chars.specs.declared.Utf8.{Utf8}
-use Rattle.chars.specs.declared.Utf8.TheVariants.{Good, Bad}
-use Rattle.items.specs.Items.{Item, record_words, records, texts}
+use Rattle.items.specs.Items.{record_words, records, texts}
 use Rattle.items.specs.Whole.{in_report, items_in}
 use Rattle.items.proofs.Fit.{records-length}
 use Rattle.lexer.proofs.Opens.{few_items}
 use Rattle.lexer.specs.Inner.{Few}
 use Rattle.laws.proofs.Choice.{by_bool, no_yes}
-use Rattle.lexer_fields.specs.Fields.{Field, field, field_by, field_of, fields_on, parts, is_in_order, row_words, item_count, records_in, texts_in, row_of, rows_from}
-use Prim.Native.Nat.{ℕ, zero, suc, ◌+◌, ◌-◌, ◌*◌, ◌≤◌, ◌<◌}
+use Rattle.lexer_fields.specs.Fields.{Field, field_by, field_of, fields_on, parts, is_in_order, row_words, item_count, records_in, texts_in, row_of, rows_from}
+use Prim.Native.Nat.{ℕ, zero, suc, ◌+◌, ◌-◌, ◌*◌, ◌≤◌}
 use mathlib.Core.Path.{◌≡◌, refl, sym, ap, ◌∙◌, subst}
-use mathlib.Core.Bool.{Bool, true, false}
+use mathlib.Core.Bool.{Bool, true}
 use mathlib.Core.List.{List, [], ◌∷◌, ◌++◌, append_assoc}
 use lib.ListN.{length, take, drop, length-append, length-drop}
 use lib.Seq.{length-take-le}
@@ -21,9 +20,9 @@ use borrow.Author.Tests.{leb-true}
 
 -- ---- the first bad sequence starts in the text
 
-abbrev pub Ahead : ℕ → Utf8 → Type 0
-Ahead n Good = Unit
-Ahead n (Bad p) = p ≤ n
+abbrev pub Ahead : ℕ → Option ℕ → Type 0
+Ahead n None = Unit
+Ahead n (Some p) = p ≤ n
 
 bad_ahead : (s : List ℕ) (k at : ℕ) → Ahead (at + length s) (verdict (sequences k at s))
 unfolding sequences
@@ -39,7 +38,7 @@ bad_ahead (b ∷ s) zero at =
     by cut more = omega arith
     by none more = tt
 
-pub first_bad_ahead : (s : List ℕ) (p : ℕ) → first_bad s ≡ Bad p → p ≤ length s
+pub first_bad_ahead : (s : List ℕ) (p : ℕ) → first_bad s ≡ Some p → p ≤ length s
 unfolding first_bad
 first_bad_ahead s p e = let h : p ≤ 0 + length s = subst (Ahead (0 + length s)) e (bad_ahead s 0 0) in omega arith
 
@@ -63,9 +62,9 @@ module _ (mode : ℕ) (skip : Bool) where
   unfolding field_of texts
   few_field part = by (first_bad part)
     where
-      by : (u : Utf8) → Few part (field_by u (items_in part mode skip)).items
-      by Good = few_items part (in_report mode) skip
-      by (Bad p) = (omega arith, omega arith)
+      by : (u : Option ℕ) → Few part (field_by u (items_in part mode skip)).items
+      by None = few_items part (in_report mode) skip
+      by (Some p) = (omega arith, omega arith)
 
   -- and the parts from a place on, which end in order
   pub few_fields : (s ends : List ℕ) (from : ℕ) → from ≤ length s → is_in_order (length s) from ends ≡ true

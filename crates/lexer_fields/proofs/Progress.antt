@@ -1,15 +1,15 @@
 -- Where a loop over the parts stands: the parts done, and those from a place on.
 use Rattle.laws.proofs.Places.{here}
-use Rattle.items.specs.Items.{record_words, texts}
+use Rattle.items.specs.Items.{texts}
 use Rattle.items.specs.Whole.{limit}
 use Rattle.lexer_fields.specs.Fields.{Field, field_of, fields_on, fields_in, parts, is_in_order, item_count, texts_in}
 use Rattle.lexer_fields.specs.Answers.{part_of, total_of, Fine}
 use Rattle.lexer_fields.specs.declared.PartAnswer.{PartAnswer}
 use Rattle.lexer_fields.specs.declared.Total.{Total}
-use Rattle.lexer_fields.proofs.Parts.{few_fields, fields_length, in_order, count_append, texts_append, part_length}
-use Prim.Native.Nat.{ℕ, ◌+◌, ◌-◌, ◌*◌, ◌≤◌, ◌<◌}
+use Rattle.lexer_fields.proofs.Parts.{few_fields, in_order, count_append, texts_append, part_length}
+use Prim.Native.Nat.{ℕ, ◌+◌, ◌-◌, ◌≤◌, ◌<◌}
 use mathlib.Core.Path.{◌≡◌, refl, sym, ap, ◌∙◌, subst}
-use mathlib.Core.Bool.{Bool, true, false}
+use mathlib.Core.Bool.{Bool, true}
 use mathlib.Core.List.{List, [], ◌∷◌, ◌++◌, append_assoc, append-nil}
 use lib.ListN.{length, get_or, take, drop, length-append, drop_of_length-le}
 use native.Mathlib.Omega.{arith}

@@ -1,28 +1,26 @@
 -- What the request says: "the records and texts must equal single whole-text calls made one by one".
 use Rattle.refusal.specs.Refusals as refusal
 use Rattle.chars.specs.Utf8.{first_bad}
-use Rattle.chars.specs.declared.Utf8.{Utf8}
-use Rattle.chars.specs.declared.Utf8.TheVariants.{Good, Bad}
-use Rattle.std.specs.Prelude.{if◌then◌else◌}
+use Rattle.std.specs.Prelude.{None, Option, Some}
 use Rattle.laws.specs.Lent.{written}
 use Rattle.laws.proofs.Choice.{by_bool, impossible}
 use Rattle.items.specs.Items.{Item, record_words, records, texts}
-use Rattle.items.specs.Whole.{Answer, served, refused, Call, call, limit, is_mode, items_in, deliver, if_good, read_of}
+use Rattle.items.specs.Whole.{Answer, served, refused, call, limit, is_mode, items_in, deliver, if_good, read_of}
 use Rattle.items.proofs.Fit.{records-length}
 use Rattle.lexer_fields.specs.Fields.{Field, field, field_by, field_of, fields_on, fields_in, parts, is_in_order, row_words, item_count, records_in, texts_in, row_of, rows_from}
 use Rattle.lexer_fields.specs.Fields.{FieldsCall, fields_call, deliver_fields, fields_of}
-use Rattle.lexer_fields.specs.Each.{alone, Marked, Single, end_after, one_by, as_one}
+use Rattle.lexer_fields.specs.Each.{alone, Marked, Single, end_after, as_one}
 use Rattle.lexer_fields.proofs.Parts.{in_order, part_length, count_append, texts_append, records_append, rows_after, records_in_length, rows_length, fields_length}
-use Prim.Native.Nat.{ℕ, ◌+◌, ◌-◌, ◌*◌, ◌/◌, ◌≤◌, ◌<◌}
+use Prim.Native.Nat.{ℕ, ◌+◌, ◌-◌, ◌*◌, ◌/◌, ◌≤◌}
 use mathlib.Core.Path.{◌≡◌, refl, sym, ap, ◌∙◌, subst}
-use mathlib.Core.Bool.{Bool, true, false}
+use mathlib.Core.Bool.{Bool, true}
 use mathlib.Core.List.{List, [], ◌∷◌, ◌++◌, append_assoc, append-nil}
 use lib.ListN.{length, take, drop, length-append}
-use lib.Seq.{take_at, drop_at, drop-drop, take_all}
+use lib.Seq.{take_at, drop_at, take_all}
 use native.Mathlib.Nat.{sub-zero}
-use lib.Dec.{eqb, leb, ltb}
+use lib.Dec.{leb, ltb}
 use native.Mathlib.Omega.{arith}
-use borrow.Author.Tests.{le-leb, le-ltb, leb-true, ltb-false}
+use borrow.Author.Tests.{le-leb, le-ltb, ltb-false}
 
 -- ---- one call for one part
 
@@ -35,16 +33,16 @@ single_call : (mode : ℕ) (skip : Bool) (part recs text : List ℕ) → is_mode
 unfolding read_of deliver field_of
 single_call mode skip part recs text m short hr ht = rw (m, le-ltb limit (length part) short) (by (first_bad part) hr ht)
   where
-    by : (u : Utf8) → length (field_by u (items_in part mode skip)).items ≤ length recs / record_words → length (texts (field_by u (items_in part mode skip)).items) ≤ length text
+    by : (u : Option ℕ) → length (field_by u (items_in part mode skip)).items ≤ length recs / record_words → length (texts (field_by u (items_in part mode skip)).items) ≤ length text
         → if_good u (deliver (items_in part mode skip) recs text) recs text
         ≡ alone (field_by u (items_in part mode skip)).mark (field_by u (items_in part mode skip)).place (length (field_by u (items_in part mode skip)).items)
         (length (texts (field_by u (items_in part mode skip)).items)) (records 0 0 (field_by u (items_in part mode skip)).items) (texts (field_by u (items_in part mode skip)).items) recs text
-    by Good a b =
+    by None a b =
         rw (
           le-leb (length (items_in part mode skip)) (length recs / record_words) a,
           le-leb (length (texts (items_in part mode skip))) (length text) b,
         )
-    by (Bad p) a b = refl
+    by (Some p) a b = refl
 
 -- ---- parts of what was written
 
@@ -64,10 +62,10 @@ is_marked_lem : (mode : ℕ) (skip : Bool) (part : List ℕ)
 unfolding field_of texts
 is_marked_lem mode skip part = by (first_bad part)
   where
-    by : (u : Utf8) → Marked u (field_by u (items_in part mode skip)).mark (field_by u (items_in part mode skip)).place
+    by : (u : Option ℕ) → Marked u (field_by u (items_in part mode skip)).mark (field_by u (items_in part mode skip)).place
         (length (field_by u (items_in part mode skip)).items) (length (texts (field_by u (items_in part mode skip)).items))
-    by Good = (refl, refl)
-    by (Bad p) = (refl, refl, refl, refl)
+    by None = (refl, refl)
+    by (Some p) = (refl, refl, refl, refl)
 
 module _ (before after : List Field) (f : Field) (old : List ℕ) where
   row_there : take row_words (drop (row_words * length before) (written (rows_from 0 0 (before ++ (f ∷ after))) old))
@@ -271,6 +269,6 @@ module _ (s : List ℕ) (mode : ℕ) (skip : Bool) (rows recs text : List ℕ) (
       (λ l. rw (m, l, le-leb 0 (length s) (omega arith), le-leb (length s) (length s) (omega arith), sub-zero (length s), take_all (length s) s (omega arith)) (by (first_bad s))))
       (λ m. rw m)
     where
-      by : (u : Utf8) → deliver_fields (field_by u (items_in s mode skip) ∷ []) rows recs text ≡ as_one (if_good u (deliver (items_in s mode skip) recs text) recs text) rows
-      by Good = one_good (items_in s mode skip)
-      by (Bad p) = one_bad p
+      by : (u : Option ℕ) → deliver_fields (field_by u (items_in s mode skip) ∷ []) rows recs text ≡ as_one (if_good u (deliver (items_in s mode skip) recs text) recs text) rows
+      by None = one_good (items_in s mode skip)
+      by (Some p) = one_bad p

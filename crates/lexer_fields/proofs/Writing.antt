@@ -3,17 +3,16 @@ use Rattle.laws.specs.Lent.{written}
 use Rattle.laws.proofs.Lent.{length-written, part_written}
 use Rattle.items.specs.Items.{record_words, records, texts}
 use Rattle.items.specs.Whole.{limit}
-use Rattle.items.proofs.Fit.{records-length}
-use Rattle.lexer_fields.specs.Fields.{Field, row_words, item_count, records_in, texts_in, row_of, rows_from, fields_in}
-use Rattle.lexer_fields.specs.Answers.{part_of, total_of, Fine, Room}
+use Rattle.lexer_fields.specs.Fields.{Field, row_words, records_in, texts_in, row_of, rows_from, fields_in}
+use Rattle.lexer_fields.specs.Answers.{part_of, Fine, Room}
 use Rattle.lexer_fields.specs.declared.PartAnswer.{PartAnswer}
-use Rattle.lexer_fields.proofs.Parts.{count_append, texts_append, records_append, rows_after, records_in_length, rows_length, fields_length}
+use Rattle.lexer_fields.proofs.Parts.{texts_append, records_append, rows_after, records_in_length, rows_length}
 use Rattle.lexer_fields.proofs.Progress.{Progress, at_start, moves_on, fits, few, left, all_done, this}
 use Prim.Native.Nat.{ℕ, ◌+◌, ◌-◌, ◌*◌, ◌≤◌, ◌<◌}
-use mathlib.Core.Path.{◌≡◌, refl, sym, ap, ◌∙◌, subst}
+use mathlib.Core.Path.{◌≡◌, refl, sym, ap, ◌∙◌}
 use mathlib.Core.Bool.{Bool}
 use mathlib.Core.List.{List, [], ◌∷◌, ◌++◌, append-nil}
-use lib.ListN.{length, get_or, take, drop, length-append}
+use lib.ListN.{length, get_or, take, drop}
 use native.Mathlib.Omega.{arith}
 use borrow.Rule.Slice.PartMut.{put_mid}
 

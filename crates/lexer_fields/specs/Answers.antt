@@ -1,9 +1,7 @@
 -- What the answers of the call mean, and what its inner functions hand on and ask.
-use Rattle.std.specs.Prelude.{ℕ, ◌*◌, ◌≤◌, ◌≡◌, Bool, true, false, List, [], ◌∷◌, length, get_or, if◌then◌else◌}
+use Rattle.std.specs.Prelude.{ℕ, ◌*◌, ◌≤◌, ◌≡◌, Bool, true, false, List, [], ◌∷◌, length, get_or, if◌then◌else◌, None, Option, Some, Result, Ok, Err}
 use Rattle.refusal.specs.Refusals as refusal
 use Rattle.chars.specs.Utf8.{first_bad}
-use Rattle.chars.specs.declared.Utf8.{Utf8}
-use Rattle.chars.specs.declared.Utf8.TheVariants.{Good, Bad}
 use Rattle.laws.specs.Quoted.{within}
 use Rattle.items.specs.Items.{record_words, texts}
 use Rattle.items.specs.Whole.{Answer, served, refused, limit, is_mode, in_report}
@@ -13,16 +11,16 @@ use Rattle.lexer_fields.specs.declared.EndsCutting.{EndsCutting}
 use Rattle.lexer_fields.specs.declared.EndsCutting.TheVariants as cutting
 use Rattle.lexer_fields.specs.declared.PartAnswer.{PartAnswer}
 use Rattle.lexer_fields.specs.declared.Total.{Total}
-use Rattle.lexer_fields.specs.declared.FieldsAnswer.{FieldsAnswer}
-use Rattle.lexer_fields.specs.declared.FieldsAnswer.TheVariants as told
+use Rattle.lexer_fields.specs.declared.FieldsError.{FieldsError}
+use Rattle.lexer_fields.specs.declared.FieldsError.TheVariants as told
 
 -- document 01's and 02's numbers and values
-abbrev pub answer_of : FieldsAnswer → Answer
-answer_of (told.Served items text) = served items text
-answer_of (told.NoMode mode) = refused refusal.no_such_mode mode 0
-answer_of told.BadEnds = refused refusal.bad_ends 0 0
-answer_of told.TooLong = refused refusal.over_long limit 0
-answer_of (told.NoRoom items text) = refused refusal.too_few items text
+abbrev pub answer_of : Result Total FieldsError → Answer
+answer_of (Ok done) = served done.items done.text
+answer_of (Err (told.NoMode mode)) = refused refusal.no_such_mode mode 0
+answer_of (Err told.BadEnds) = refused refusal.bad_ends 0 0
+answer_of (Err told.TooLong) = refused refusal.over_long limit 0
+answer_of (Err (told.NoRoom needed)) = refused refusal.too_few needed.items needed.text
 
 -- a part, by its mark, its place and its counts
 abbrev pub part_of : Field → PartAnswer
@@ -62,13 +60,13 @@ IsCut clean source ends mode = (is_mode mode ≡ true) × (is_in_order (length s
 abbrev pub cutting_of : Bool → Bool → EndsCutting
 cutting_of ordered clean = if ordered then (if clean then cutting.Between else cutting.Inside) else cutting.Disordered
 
-abbrev pub well_cut : Utf8 → Bool → Bool
-well_cut Good cut = cut
-well_cut (Bad p) cut = false
+abbrev pub well_cut : Option ℕ → Bool → Bool
+well_cut None cut = cut
+well_cut (Some p) cut = false
 
 -- where a part is known to be UTF-8, it is
 abbrev pub Known : Bool → List ℕ → Type 0
-Known known part = known ≡ true → first_bad part ≡ Good
+Known known part = known ≡ true → first_bad part ≡ None
 
 abbrev pub Unmarked : List Field → Type 0
 Unmarked [] = Unit

@@ -1,10 +1,8 @@
 -- What the theorems of proofs/Singles say of the call: each part is as the whole-text call reads it alone.
-use Rattle.std.specs.Prelude.{ℕ, ◌+◌, ◌*◌, ◌/◌, ◌≤◌, ◌≡◌, Bool, List, [], ◌∷◌, ◌++◌, length, take, drop, eqb, if◌then◌else◌}
+use Rattle.std.specs.Prelude.{ℕ, ◌+◌, ◌*◌, ◌/◌, ◌≤◌, ◌≡◌, Bool, List, [], ◌∷◌, ◌++◌, length, take, drop, eqb, if◌then◌else◌, None, Option, Some}
 use Rattle.laws.specs.Lent.{written}
 use Rattle.refusal.specs.Refusals as refusal
 use Rattle.chars.specs.Utf8.{first_bad}
-use Rattle.chars.specs.declared.Utf8.{Utf8}
-use Rattle.chars.specs.declared.Utf8.TheVariants.{Good, Bad}
 use Rattle.items.specs.Items.{record_words}
 use Rattle.items.specs.Whole.{Answer, served, refused, Call, call, read_of}
 use Rattle.lexer_fields.specs.Fields.{row_words, FieldsCall, fields_call}
@@ -14,9 +12,9 @@ abbrev pub alone : ℕ → ℕ → ℕ → ℕ → List ℕ → List ℕ → Lis
 alone mark place n t rs bs recs text = if eqb mark refusal.not_utf8 then call (refused refusal.not_utf8 place 0) recs text else call (served n t) (written rs recs) (written bs text)
 
 -- a part's mark and place; a part that is not UTF-8 has no items
-abbrev pub Marked : Utf8 → ℕ → ℕ → ℕ → ℕ → Type 0
-Marked Good mark place items bytes = (mark ≡ 0) × (place ≡ 0)
-Marked (Bad p) mark place items bytes = (mark ≡ refusal.not_utf8) × (place ≡ p) × (items ≡ 0) × (bytes ≡ 0)
+abbrev pub Marked : Option ℕ → ℕ → ℕ → ℕ → ℕ → Type 0
+Marked None mark place items bytes = (mark ≡ 0) × (place ≡ 0)
+Marked (Some p) mark place items bytes = (mark ≡ refusal.not_utf8) × (place ≡ p) × (items ≡ 0) × (bytes ≡ 0)
 
 -- what a part's row says, and what the part's call alone gives; `count` is the number of parts, n and t are the answer's totals
 pub record Single (mode : ℕ) (skip : Bool) (part : List ℕ) (out : FieldsCall) (count n t k : ℕ) : Type 0 where

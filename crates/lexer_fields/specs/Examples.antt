@@ -1,10 +1,9 @@
 -- What the call gives for small sources: the answer and all three memories. One table, one statement, proved by computation.
-use Rattle.std.specs.Prelude.{ℕ, ◌+◌, ◌≡◌, refl, Bool, true, false, List, [], ◌∷◌, ◌++◌, map}
-use Prim.Native.String.{String}
+use Rattle.std.specs.Prelude.{ℕ, ◌+◌, ◌≡◌, refl, false, List, [], ◌∷◌, ◌++◌, map}
 use Rattle.refusal.specs.Refusals as refusal
 use Rattle.chars.specs.Encode.{is_scalar, utf8, width, encode, bytes_of, spelled}
 use Rattle.chars.specs.Utf8.{first, rest, front, sequences, first_bad, chars}
-use Rattle.laws.specs.Quoted.{code, codes, within}
+use Rattle.laws.specs.Quoted.{within}
 use Rattle.items.specs.Kinds as kind
 use Rattle.laws.specs.Texts.{span, starts, begins, same}
 use Rattle.chars.specs.Blank.{is_blank}
@@ -18,7 +17,7 @@ use Rattle.items.specs.Readers.{read_line, lined_of, scalar_of, read_word, read_
 use Rattle.items.specs.Readers.{here_body, here_delim, after_angle, read_hash, read_comma, read_item, read_nest, read_quoted, read_word_on, hash_on, past_failing}
 use Rattle.items.specs.Meaning.{lookup, words, word_kind, word_means, run_means, escaped, string_text, lined_text, here_text, char_names, is_delimiter, nameless, hex_named, spelled_out, character_of, unescape}
 use Rattle.items.specs.Items.{extent_items, items_from, past_line, after_pound, items, kept, records, texts}
-use Rattle.items.specs.Whole.{Answer, served, refused, limit}
+use Rattle.items.specs.Whole.{Answer, served, refused}
 use Rattle.lexer_fields.specs.Fields.{parts, is_in_order, field_of, fields_on, item_count, records_in, texts_in, rows_from, FieldsCall, fields_call, deliver_fields, fields_of}
 
 -- a row, and a record

@@ -1,10 +1,8 @@
 -- Many fields in one call, all of it: what it answers and what the three lent memories hold afterwards. Document 02, (xii).
-use Rattle.std.specs.Prelude.{ℕ, ◌+◌, ◌-◌, ◌/◌, Bool, true, false, List, [], ◌∷◌, ◌++◌, length, take, drop, leb, ltb, if◌then◌else◌}
+use Rattle.std.specs.Prelude.{ℕ, ◌+◌, ◌-◌, ◌/◌, Bool, true, false, List, [], ◌∷◌, ◌++◌, length, take, drop, leb, ltb, if◌then◌else◌, None, Option, Some}
 use Rattle.laws.specs.Lent.{written}
 use Rattle.refusal.specs.Refusals as refusal
 use Rattle.chars.specs.Utf8.{first_bad}
-use Rattle.chars.specs.declared.Utf8.{Utf8}
-use Rattle.chars.specs.declared.Utf8.TheVariants.{Good, Bad}
 use Rattle.items.specs.Items.{Item, record_words, records, texts}
 use Rattle.items.specs.Whole.{Answer, served, refused, limit, is_mode, items_in}
 
@@ -32,9 +30,9 @@ abbrev pub field : ℕ → ℕ → List Item → Field
 field m p is = record { mark = m; place = p; items = is }
 
 -- "A part that isn't UTF-8 gets mark 21, its place and no records [..]; other parts have 0 and 0"
-abbrev pub field_by : Utf8 → List Item → Field
-field_by Good is = field 0 0 is
-field_by (Bad p) is = field refusal.not_utf8 p []
+abbrev pub field_by : Option ℕ → List Item → Field
+field_by None is = field 0 0 is
+field_by (Some p) is = field refusal.not_utf8 p []
 
 -- the items of a part are those of the whole-text call for that part alone
 unfoldable pub field_of : ℕ → Bool → List ℕ → Field

@@ -5,7 +5,7 @@ ghost use Rattle.lexer_fields.specs.Fields.{is_in_order};
 ghost use Rattle.lexer_fields.specs.Answers.{continues, between, cutting_of, well_cut};
 
 use crate::EndsCutting;
-use chars::{TAIL_HIGH, TAIL_LOW, Utf8, first_bad};
+use chars::{TAIL_HIGH, TAIL_LOW, first_bad};
 
 // Whether the byte at a place goes on with a character.
 fn continues(source: &[u8], at: usize) -> bool
@@ -26,22 +26,17 @@ pub fn cut(source: &[u8], ends: &[u32]) -> EndsCutting
     ensures { result ≡ cutting_of (is_in_order (length source.now) 0 ends.now) (between source.now ends.now) }
 {
     let n = source.len();
-    let mut i: usize = 0;
     let mut from: usize = 0;
     let mut inside = false;
-    while i < ends.len() {
-        let end = ends[i] as usize;
-        if end < from {
-            return EndsCutting::Disordered;
-        }
-        if n < end {
+    for place in ends {
+        let end = *place as usize;
+        if end < from || n < end {
             return EndsCutting::Disordered;
         }
         if continues(source, end) {
             inside = true;
         }
         from = end;
-        i += 1;
     }
     if inside {
         return EndsCutting::Inside;
@@ -54,7 +49,7 @@ pub fn all_known(source: &[u8], clean: bool) -> bool
     ensures { result ≡ well_cut (first_bad source.now) clean }
 {
     match first_bad(source) {
-        Utf8::Good => clean,
-        Utf8::Bad(_) => false,
+        None => clean,
+        Some(_) => false,
     }
 }

@@ -1,10 +1,9 @@
 // One part, read as a text of its own.
-ghost use Rattle.std.specs.Prelude.{◌≡◌, eqb, ◌*◌, ◌≤◌, length, get_or};
+ghost use Rattle.std.specs.Prelude.{◌≡◌, eqb, ◌*◌, ◌≤◌, length, get_or, None};
 ghost use Rattle.laws.specs.Lent.{written};
 ghost use Rattle.laws.specs.Quoted.{code};
 ghost use Rattle.refusal.specs.Refusals as refusals;
 ghost use Rattle.chars.specs.Utf8.{chars, first_bad};
-ghost use Rattle.chars.specs.declared.Utf8.TheVariants.{Good};
 ghost use Rattle.lexer.specs.Opening.{start_of};
 ghost use Rattle.items.specs.Items.{record_words, records, texts};
 ghost use Rattle.items.specs.Whole.{limit};
@@ -12,7 +11,7 @@ ghost use Rattle.lexer_fields.specs.Fields.{field_of};
 ghost use Rattle.lexer_fields.specs.Answers.{part_of, spot_at, Known};
 
 use crate::PartAnswer;
-use chars::{Utf8, first_bad};
+use chars::first_bad;
 use items::modes::REPORT;
 use lexer::{Spot, UNSET, begin, count, write};
 use meaning::Range;
@@ -47,12 +46,12 @@ fn not_utf8(at: usize) -> PartAnswer
 }
 
 // Whether a part is UTF-8, which may be known.
-fn seen(part: &[u8], known: bool) -> Utf8
+fn seen(part: &[u8], known: bool) -> Option<usize>
     requires { Known known part.now }
     ensures { result ≡ first_bad part.now }
 {
     if known {
-        return Utf8::Good;
+        return None;
     }
     first_bad(&part[..])
 }
@@ -70,7 +69,7 @@ fn begins_hash(part: &[u8]) -> bool
 
 // Where reading starts in a part, which is UTF-8: only after a # is its first line looked at.
 fn first_place(part: &[u8], mode: u32, skip: bool) -> usize
-    requires { first_bad part.now ≡ Good }
+    requires { first_bad part.now ≡ None }
     ensures { result ≡ start_of (chars part.now) }
 {
     if begins_hash(part) {
@@ -102,12 +101,12 @@ pub fn count_part(part: &[u8], known: bool, mode: u32, skip: bool) -> PartAnswer
     ensures { result ≡ part_of (field_of mode skip part.now) }
 {
     match seen(part, known) {
-        Utf8::Good => {
+        None => {
             let position = begin(part, mode, skip);
             let n = count(part, position.spot);
             read_well(n.items, n.text)
         }
-        Utf8::Bad(at) => not_utf8(at),
+        Some(at) => not_utf8(at),
     }
 }
 
@@ -128,11 +127,11 @@ pub fn write_part(
     ensures text_after { text.new ≡ written (texts (field_of mode skip part.now).items) text.old }
 {
     match seen(part, known) {
-        Utf8::Good => {
+        None => {
             let at = first_place(part, mode, skip);
             let n = write(part, spot_at(at, mode, skip), recs, text);
             read_well(n.items, n.text)
         }
-        Utf8::Bad(at) => not_utf8(at),
+        Some(at) => not_utf8(at),
     }
 }

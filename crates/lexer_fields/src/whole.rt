@@ -7,7 +7,7 @@ ghost use Rattle.lexer_fields.specs.Answers.{answer_of, total_of, IsCut, Fine, R
 use crate::ends::{all_known, cut};
 use crate::rows::{ROW, put_row};
 use crate::single::{count_part, write_part};
-use crate::{EndsCutting, FieldsAnswer, Total};
+use crate::{EndsCutting, FieldsError, Total};
 use items::RECORD_WORDS;
 use items::modes::REPORT;
 use refusal::LIMIT;
@@ -18,17 +18,15 @@ fn count(source: &[u8], ends: &[u32], known: bool, mode: u32, skip: bool) -> Tot
     requires all_known { AllKnown known source.now ends.now mode skip }
     ensures { result ≡ total_of (fields_in source.now ends.now mode skip) }
 {
-    let mut i: usize = 0;
     let mut from: usize = 0;
     let mut n: usize = 0;
     let mut free: usize = 0;
-    while i < ends.len() {
-        let end = ends[i] as usize;
+    for place in ends {
+        let end = *place as usize;
         let p = count_part(&source[from..end], known, mode, skip);
-        n = n + p.items;
-        free = free + p.text;
+        n += p.items;
+        free += p.text;
         from = end;
-        i += 1;
     }
     Total {
         items: n,
@@ -55,21 +53,19 @@ fn write(
     ensures recs_after { recs.new ≡ written (records_in (fields_in source.now ends.now mode skip)) recs.old }
     ensures text_after { text.new ≡ written (texts_in (fields_in source.now ends.now mode skip)) text.old }
 {
-    let mut i: usize = 0;
     let mut from: usize = 0;
     let mut n: usize = 0;
     let mut w: usize = 0;
     let mut free: usize = 0;
-    while i < ends.len() {
-        let end = ends[i] as usize;
+    for (i, place) in ends.iter().enumerate() {
+        let end = *place as usize;
         let part = &source[from..end];
         let p = write_part(part, known, mode, skip, &mut recs[w..], &mut text[free..]);
         put_row(&mut rows[i * ROW..], n as u32, free as u32, p.mark, p.place);
-        n = n + p.items;
+        n += p.items;
         w = n * RECORD_WORDS;
-        free = free + p.text;
+        free += p.text;
         from = end;
-        i += 1;
     }
     Total {
         items: n,
@@ -87,26 +83,21 @@ fn deliver_counted(
     rows: &mut [u32],
     recs: &mut [u32],
     text: &mut [u8],
-) -> FieldsAnswer
+) -> Result<Total, FieldsError>
     requires fine { Fine source.now ends.now mode }
     requires all_known { AllKnown known source.now ends.now mode skip }
     ensures { fields_call (answer_of result) rows.new recs.new text.new
         ≡ deliver_fields (fields_in source.now ends.now mode skip) rows.old recs.old text.old }
 {
     let needed = count(source, ends, known, mode, skip);
-    let items = needed.items;
-    let bytes = needed.text;
-    if rows.len() / ROW < ends.len() {
-        return FieldsAnswer::NoRoom(items, bytes);
-    }
-    if recs.len() / RECORD_WORDS < items {
-        return FieldsAnswer::NoRoom(items, bytes);
-    }
-    if text.len() < bytes {
-        return FieldsAnswer::NoRoom(items, bytes);
+    if rows.len() / ROW < ends.len()
+        || recs.len() / RECORD_WORDS < needed.items
+        || text.len() < needed.text
+    {
+        return Err(FieldsError::NoRoom(needed));
     }
     write(source, ends, known, mode, skip, rows, recs, text);
-    FieldsAnswer::Served(items, bytes)
+    Ok(needed)
 }
 
 // The parts into lent memory, if they fit. Where there is a row for each part, and a record and a byte of text memory for each byte of
@@ -120,23 +111,19 @@ fn deliver(
     rows: &mut [u32],
     recs: &mut [u32],
     text: &mut [u8],
-) -> FieldsAnswer
+) -> Result<Total, FieldsError>
     requires fine { Fine source.now ends.now mode }
     requires all_known { AllKnown known source.now ends.now mode skip }
     ensures { fields_call (answer_of result) rows.new recs.new text.new
         ≡ deliver_fields (fields_in source.now ends.now mode skip) rows.old recs.old text.old }
 {
-    if rows.len() / ROW < ends.len() {
+    if rows.len() / ROW < ends.len()
+        || recs.len() / RECORD_WORDS < source.len()
+        || text.len() < source.len()
+    {
         return deliver_counted(source, ends, known, mode, skip, rows, recs, text);
     }
-    if recs.len() / RECORD_WORDS < source.len() {
-        return deliver_counted(source, ends, known, mode, skip, rows, recs, text);
-    }
-    if text.len() < source.len() {
-        return deliver_counted(source, ends, known, mode, skip, rows, recs, text);
-    }
-    let done = write(source, ends, known, mode, skip, rows, recs, text);
-    FieldsAnswer::Served(done.items, done.text)
+    Ok(write(source, ends, known, mode, skip, rows, recs, text))
 }
 
 // The parts into lent memory, if the source is not too long and they fit; whether no end lies inside a character is known.
@@ -149,13 +136,13 @@ fn deliver_cut(
     rows: &mut [u32],
     recs: &mut [u32],
     text: &mut [u8],
-) -> FieldsAnswer
+) -> Result<Total, FieldsError>
     requires { IsCut clean source.now ends.now mode }
     ensures { fields_call (answer_of result) rows.new recs.new text.new
         ≡ fields_of source.now ends.now mode skip rows.old recs.old text.old }
 {
     if LIMIT < source.len() {
-        return FieldsAnswer::TooLong;
+        return Err(FieldsError::TooLong);
     }
     let known = all_known(source, clean);
     deliver(source, ends, known, mode, skip, rows, recs, text)
@@ -171,15 +158,15 @@ pub fn read_fields(
     rows: &mut [u32],
     recs: &mut [u32],
     text: &mut [u8],
-) -> FieldsAnswer
+) -> Result<Total, FieldsError>
     ensures { fields_call (answer_of result) rows.new recs.new text.new
         ≡ fields_of source.now ends.now mode skip rows.old recs.old text.old }
 {
     if REPORT < mode {
-        return FieldsAnswer::NoMode(mode);
+        return Err(FieldsError::NoMode(mode));
     }
     match cut(source, ends) {
-        EndsCutting::Disordered => FieldsAnswer::BadEnds,
+        EndsCutting::Disordered => Err(FieldsError::BadEnds),
         EndsCutting::Inside => deliver_cut(source, ends, false, mode, skip, rows, recs, text),
         EndsCutting::Between => deliver_cut(source, ends, true, mode, skip, rows, recs, text),
     }

@@ -7,32 +7,32 @@ ghost use Rattle.lexer_fields.specs.Answers.{answer_of};
 ghost use Rattle.lexer_fields_exports.specs.Told.{number_in, values_in, left_behind, fields_left};
 
 use exports_values::put_values;
-use lexer_fields::FieldsAnswer;
+use lexer_fields::{FieldsError, Total};
 use refusal::{BAD_ENDS, LIMIT_VALUE, NO_MODE, SERVED, TOO_FEW, TOO_LONG};
 
 // An answer told: its values go to the lent memory, and its number back.
-fn tell(a: FieldsAnswer, values: &mut [u64]) -> u32
+fn tell(a: Result<Total, FieldsError>, values: &mut [u64]) -> u32
     ensures { (result ≡ number_in (answer_of a)) × (values.new ≡ lay (values_in (answer_of a)) values.old) }
 {
     match a {
-        FieldsAnswer::Served(items, bytes) => {
-            put_values(values, items as u64, bytes as u64);
+        Ok(done) => {
+            put_values(values, done.items as u64, done.text as u64);
             SERVED
         }
-        FieldsAnswer::NoMode(mode) => {
+        Err(FieldsError::NoMode(mode)) => {
             put_values(values, mode as u64, 0);
             NO_MODE
         }
-        FieldsAnswer::BadEnds => {
+        Err(FieldsError::BadEnds) => {
             put_values(values, 0, 0);
             BAD_ENDS
         }
-        FieldsAnswer::TooLong => {
+        Err(FieldsError::TooLong) => {
             put_values(values, LIMIT_VALUE, 0);
             TOO_LONG
         }
-        FieldsAnswer::NoRoom(items, bytes) => {
-            put_values(values, items as u64, bytes as u64);
+        Err(FieldsError::NoRoom(needed)) => {
+            put_values(values, needed.items as u64, needed.text as u64);
             TOO_FEW
         }
     }

@@ -1,6 +1,6 @@
 -- Many fields in one call: `lexer_fields::read_fields` ensures
 -- `fields_call (answer_of r) rows' records' text' ≡ fields_of source ends mode skip rows records text`.
-use Rattle.std.specs.Prelude.{ℕ, ◌<◌, ◌≡◌, refl, Bool, true, false, List, [], ◌∷◌, ◌++◌, length, eqb, if◌then◌else◌}
+use Rattle.std.specs.Prelude.{ℕ, ◌<◌, ◌≡◌, refl, Bool, true, false, List, [], ◌∷◌, ◌++◌, length, eqb, if◌then◌else◌, Result, Ok, Err}
 use Rattle.std.proofs.Common.{ap, sym, ◌∙◌, lt-ltb}
 use Rattle.laws.specs.Texts.{span, starts, begins, same}
 use Rattle.laws.specs.Quoted.{code, within}
@@ -24,8 +24,9 @@ use Rattle.items.specs.Whole.{Answer, served, refused, limit, is_mode}
 use Rattle.items_promises.specs.Shapes.{room, words_for, bare, texted, error}
 use Rattle.lexer_fields.specs.Fields.{parts, is_in_order, field_of, fields_on, item_count, records_in, texts_in, rows_from, FieldsCall, fields_call, deliver_fields, fields_of}
 use Rattle.lexer_fields.specs.Answers.{answer_of}
-use Rattle.lexer_fields.specs.declared.FieldsAnswer.{FieldsAnswer}
-use Rattle.lexer_fields.specs.declared.FieldsAnswer.TheVariants as told
+use Rattle.lexer_fields.specs.declared.Total.{Total}
+use Rattle.lexer_fields.specs.declared.FieldsError.{FieldsError}
+use Rattle.lexer_fields.specs.declared.FieldsError.TheVariants as told
 
 -- a row: the part's first record, its first text byte, its mark and its place
 abbrev pub row : ℕ → ℕ → ℕ → ℕ → List ℕ
@@ -112,26 +113,26 @@ rows = record {
 -- ---- every other answer
 
 -- two answers that stand for the same number and values are one
-answered_one : (a b : FieldsAnswer) → answer_of a ≡ answer_of b → a ≡ b
+answered_one : (a b : Result Total FieldsError) → answer_of a ≡ answer_of b → a ≡ b
 answered_one a b e = sym (back-answered a) ∙ ap back e ∙ back-answered b
   where
-    back : Answer → FieldsAnswer
-    back (served n t) = told.Served n t
+    back : Answer → Result Total FieldsError
+    back (served n t) = Ok (record { items = n; text = t })
     back (refused n x y) =
-        if eqb n no_such_mode then told.NoMode x
-        else if eqb n bad_ends then told.BadEnds
-        else if eqb n over_long then told.TooLong
-        else told.NoRoom x y
+        if eqb n no_such_mode then Err (told.NoMode x)
+        else if eqb n bad_ends then Err told.BadEnds
+        else if eqb n over_long then Err told.TooLong
+        else Err (told.NoRoom (record { items = x; text = y }))
 
-    back-answered : (a : FieldsAnswer) → back (answer_of a) ≡ a
-    back-answered (told.Served n t) = refl
-    back-answered (told.NoMode m) = refl
-    back-answered told.BadEnds = refl
-    back-answered told.TooLong = refl
-    back-answered (told.NoRoom n t) = refl
+    back-answered : (a : Result Total FieldsError) → back (answer_of a) ≡ a
+    back-answered (Ok n) = refl
+    back-answered (Err (told.NoMode m)) = refl
+    back-answered (Err told.BadEnds) = refl
+    back-answered (Err told.TooLong) = refl
+    back-answered (Err (told.NoRoom n)) = refl
 
 -- two answers that the contract permits coincide, and so do the memories
-pub one_answer : (c : FieldsCall) (a b : FieldsAnswer) (w w' r r' t t' : List ℕ) → fields_call (answer_of a) w r t ≡ c → fields_call (answer_of b) w' r' t' ≡ c
+pub one_answer : (c : FieldsCall) (a b : Result Total FieldsError) (w w' r r' t t' : List ℕ) → fields_call (answer_of a) w r t ≡ c → fields_call (answer_of b) w' r' t' ≡ c
     → (a ≡ b) × ((w ≡ w') × ((r ≡ r') × (t ≡ t')))
 one_answer c a b w w' r r' t t' h k =
     let e : fields_call (answer_of a) w r t ≡ fields_call (answer_of b) w' r' t' = h ∙ sym k in

@@ -1,10 +1,9 @@
 -- Opening: `lexer::open` ensures `opening_of r ≡ open_of source mode skip`.
-use Rattle.std.specs.Prelude.{ℕ, ◌<◌, ◌≤◌, ◌≡◌, refl, Bool, true, false, List, [], ◌∷◌, length}
+use Rattle.std.specs.Prelude.{ℕ, ◌<◌, ◌≤◌, ◌≡◌, refl, Bool, true, false, List, [], ◌∷◌, length, None}
 use Rattle.std.proofs.Common.{lt-ltb, le-ltb}
 use Rattle.laws.specs.Quoted.{code, within}
 use Rattle.chars.specs.Encode.{utf8, width, bytes_of, spelled}
 use Rattle.chars.specs.Utf8.{first, rest, front, first_bad, sequences, chars}
-use Rattle.chars.specs.declared.Utf8.TheVariants.{Good}
 use Rattle.items.specs.Items.{unset}
 use Rattle.items.specs.Whole.{limit, in_report}
 use Rattle.meaning.specs.Places.{range_of}
@@ -38,7 +37,7 @@ rows = record {
 }
 
 -- a text of just the limit is opened; a byte more is 20, also where the bytes are no text: 20 before 21
-longest_opened : (source : List ℕ) (mode : ℕ) (skip : Bool) → mode < 2 → length source ≡ 4294967295 → first_bad source ≡ Good
+longest_opened : (source : List ℕ) (mode : ℕ) (skip : Bool) → mode < 2 → length source ≡ 4294967295 → first_bad source ≡ None
     → open_of source mode skip ≡ opened (opening source (in_report mode) skip)
 unfolding open_of
 longest_opened source mode skip m e good = simp (lt-ltb mode 2 m, e, good)

@@ -1,14 +1,14 @@
 -- What a listing comes to, by the calls' definition: crate `pieces`, specs/Drive, has the same caller, and it collects the items that this one
 -- counts and prints.
-use Rattle.std.specs.Prelude.{◌≡◌, ℕ, ◌+◌, ◌*◌, ◌%◌, ◌^◌, Bool, true, false, List, length}
+use Rattle.std.specs.Prelude.{◌≡◌, ℕ, ◌+◌, ◌*◌, ◌%◌, ◌^◌, List, length, Option, None, Some}
 use Rattle.pieces.specs.declared.Answer.{Answer}
 use Rattle.pieces.specs.declared.Got.{Got}
 use Rattle.pieces.specs.declared.Got.TheVariants as got
 use Rattle.pieces.specs.declared.State.{State}
 use Rattle.pieces.specs.Drive.{piece_calls, end_calls}
 use Rattle.pieces.specs.Expected.{LastWord, finished, refused, Expected}
-use Rattle.lexlist_listing.specs.declared.Heard.{Heard}
-use Rattle.lexlist_listing.specs.declared.Heard.TheVariants.{Going, Finished, Refused}
+use Rattle.lexlist_listing.specs.declared.Ending.{Ending}
+use Rattle.lexlist_listing.specs.declared.Ending.TheVariants.{Finished, Refused}
 use Rattle.lexlist_listing.specs.declared.Listing.{Listing}
 
 -- how many items were given, as 64 bits hold it, and the last word
@@ -33,30 +33,25 @@ more n got.Finished = n
 more n (got.Refused number place) = n
 
 -- "finished" and a refusal are the last word
-abbrev pub heard_of : Got → Heard
-heard_of (got.Item r) = Going
-heard_of got.More = Going
-heard_of got.Finished = Finished
-heard_of (got.Refused number place) = Refused number place
+abbrev pub ending_of : Got → Option Ending
+ending_of (got.Item r) = None
+ending_of got.More = None
+ending_of got.Finished = Some Finished
+ending_of (got.Refused number place) = Some (Refused number place)
 
 abbrev pub heed : ℕ → Answer → Listing
-heed n a = record { state = a.state; items = more n a.got; heard = heard_of a.got }
-
-abbrev pub is_over : Heard → Bool
-is_over Going = false
-is_over Finished = true
-is_over (Refused number place) = true
+heed n a = record { state = a.state; items = more n a.got; ending = ending_of a.got }
 
 -- ---- where a listing stands
 
 -- what it comes to: `next` is what the calls give from its state on, where it goes on
-abbrev pub comes_by : Heard → ℕ → State → (State → Expected) → Tally
-comes_by Going n s next = counted n (next s)
-comes_by Finished n s next = tally n finished
-comes_by (Refused number place) n s next = tally n (refused number place)
+abbrev pub comes_by : Option Ending → ℕ → State → (State → Expected) → Tally
+comes_by None n s next = counted n (next s)
+comes_by (Some Finished) n s next = tally n finished
+comes_by (Some (Refused number place)) n s next = tally n (refused number place)
 
 abbrev pub comes_to : Listing → (State → Expected) → Tally
-comes_to l next = comes_by l.heard l.items l.state next
+comes_to l next = comes_by l.ending l.items l.state next
 
 -- After a piece: whatever follows it, the listing comes to what the caller of Drive is given. `room` is the length of the text memory
 abbrev pub PieceListed : ℕ → Listing → List ℕ → Listing → Type 0

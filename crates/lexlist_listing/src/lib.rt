@@ -4,8 +4,8 @@
 #![tactic(auto)]
 
 ghost use Rattle.std.specs.Prelude.{◌≡◌, ◌≤◌, length};
-ghost use Rattle.lexlist_listing.specs.declared.Heard.TheVariants.{Refused};
-ghost use Rattle.lexlist_listing.specs.Counted.{heed, is_over, PieceListed, EndListed};
+ghost use Rattle.lexlist_listing.specs.declared.Ending.TheVariants.{Refused};
+ghost use Rattle.lexlist_listing.specs.Counted.{heed, PieceListed, EndListed};
 
 use items::modes::PLAIN;
 use items::{Nine, kinds};
@@ -21,20 +21,19 @@ const PIECE: usize = 512;
 // After the end is declared at most this many calls give an item: the pair that waits, the last extent.
 const LAST_CALLS: usize = 4;
 
-// What was heard last: that there may be more, that all was given, or a refusal's number and place.
+// How a text ends: all was given, or a refusal's number and place.
 #[derive(Clone, Copy)]
-enum Heard {
-    Going,
+enum Ending {
     Finished,
     Refused(u32, usize),
 }
 
-// Where the listing stands: the state, how many items were listed, and what was heard last.
+// Where the listing stands: the state, how many items were listed, and how the text ended once it has.
 #[derive(Clone, Copy)]
 struct Listing {
     state: State,
     items: u64,
-    heard: Heard,
+    ending: Option<Ending>,
 }
 
 // Where the lines go, and what came of writing them: after a write that fails nothing more is written.
@@ -98,54 +97,40 @@ fn heed<W: Write>(lines: &mut Lines<W>, items: u64, answer: Answer) -> Listing
     ensures { result ≡ heed items answer }
 {
     let state = answer.state;
-    let got = answer.got;
-    match got {
+    match answer.got {
         Got::Item(r) => {
             list_item(lines, r.nine);
             Listing {
                 state,
                 items: std::num::wrapping_add_u64(items, 1),
-                heard: Heard::Going,
+                ending: None,
             }
         }
         Got::More => Listing {
             state,
             items,
-            heard: Heard::Going,
+            ending: None,
         },
         Got::Finished => Listing {
             state,
             items,
-            heard: Heard::Finished,
+            ending: Some(Ending::Finished),
         },
         Got::Refused(refusal, place) => Listing {
             state,
             items,
-            heard: Heard::Refused(refusal, place),
+            ending: Some(Ending::Refused(refusal, place)),
         },
-    }
-}
-
-// Whether a last word was heard.
-fn is_over(heard: Heard) -> bool
-    ensures { result ≡ is_over heard }
-{
-    match heard {
-        Heard::Going => false,
-        Heard::Finished => true,
-        Heard::Refused(_, _) => true,
     }
 }
 
 // The calls were too few, which no text brings about.
 fn too_few(listing: Listing) -> Listing
-    ensures { result ≡ record { state = listing.state; items = listing.items; heard = Refused 0 0 } }
+    ensures { result ≡ record { state = listing.state; items = listing.items; ending = Some (Refused 0 0) } }
 {
-    let state = listing.state;
     Listing {
-        state,
-        items: listing.items,
-        heard: Heard::Refused(0, 0),
+        ending: Some(Ending::Refused(0, 0)),
+        ..listing
     }
 }
 
@@ -161,21 +146,17 @@ fn list_piece<W: Write>(
 {
     let mut now = listing;
     let mut from: usize = 0;
-    let mut calls: usize = 2 * bytes.len() + 2;
-    while calls > 0 {
-        let state = now.state;
-        let answer = piece(state, &bytes[from..], text);
+    for _ in 0..2 * bytes.len() + 2 {
+        let answer = piece(now.state, &bytes[from..], text);
         let taken = answer.taken;
         now = heed(lines, now.items, answer);
-        let heard = now.heard;
-        if is_over(heard) {
+        if now.ending.is_some() {
             return now;
         }
         if bytes.len() - from <= taken {
             return now;
         }
         from = from + taken;
-        calls = calls - 1;
     }
     too_few(now)
 }
@@ -185,91 +166,42 @@ fn list_end<W: Write>(lines: &mut Lines<W>, listing: Listing, text: &mut [u8]) -
     ensures { EndListed (length text.old) listing result }
 {
     let mut now = listing;
-    let mut calls: usize = LAST_CALLS;
-    while calls > 0 {
-        let state = now.state;
-        let answer = end(state, text);
+    for _ in 0..LAST_CALLS {
+        let answer = end(now.state, text);
         now = heed(lines, now.items, answer);
-        let heard = now.heard;
-        if is_over(heard) {
+        if now.ending.is_some() {
             return now;
         }
-        calls = calls - 1;
     }
     too_few(now)
 }
 
-// The listing after a read, whether it is the last, and whether the read failed, which is not the end of the input.
-#[derive(Clone, Copy)]
-struct ReadPiece {
-    listing: Listing,
-    last: bool,
-    unread: bool,
-}
-
-// Reads a piece and lists it.
-fn list_some<R: Read, W: Write>(
-    reader: &mut R,
-    lines: &mut Lines<W>,
-    listing: Listing,
-    text: &mut [u8],
-) -> ReadPiece {
-    let mut bytes = [0u8; PIECE];
-    let n = match reader.read(&mut bytes) {
-        Ok(n) => n,
-        Err(_) => {
-            return ReadPiece {
-                listing,
-                last: true,
-                unread: true,
-            };
-        }
-    };
-    if n == 0 {
-        return ReadPiece {
-            listing,
-            last: true,
-            unread: false,
-        };
-    }
-    let after = list_piece(lines, listing, &bytes[..n], text);
-    let heard = after.heard;
-    let last = is_over(heard);
-    ReadPiece {
-        listing: after,
-        last,
-        unread: false,
-    }
-}
-
-// Lists all that is read. A proved loop has to end, and nothing says that an input does: so the turns are counted, up to a number that
-// no run uses up.
+// Lists all that is read, to a refusal or to the end of the input; it fails where a read does, which is not the end. A proved loop has to
+// end, and nothing says that an input does: so the turns are counted, up to a number that no run uses up.
 fn list_all<R: Read, W: Write>(
     reader: &mut R,
     lines: &mut Lines<W>,
     listing: Listing,
     text: &mut [u8],
-) -> ReadPiece {
+) -> io::Result<Listing> {
     let mut now = listing;
     for _ in 0..u64::MAX {
-        let step = list_some(reader, lines, now, text);
-        if step.last {
-            return step;
+        let mut bytes = [0u8; PIECE];
+        let n = reader.read(&mut bytes)?;
+        if n == 0 {
+            return Ok(now);
         }
-        let after = step.listing;
-        now = after;
+        now = list_piece(lines, now, &bytes[..n], text);
+        if now.ending.is_some() {
+            return Ok(now);
+        }
     }
-    ReadPiece {
-        listing: now,
-        last: true,
-        unread: false,
-    }
+    Ok(now)
 }
 
 // The listing to its end, unless a refusal ended it.
 fn list_rest<W: Write>(lines: &mut Lines<W>, listing: Listing, text: &mut [u8]) -> Listing {
-    let heard = listing.heard;
-    if is_over(heard) {
+    if listing.ending.is_some() {
         return listing;
     }
     list_end(lines, listing, text)
@@ -277,11 +209,10 @@ fn list_rest<W: Write>(lines: &mut Lines<W>, listing: Listing, text: &mut [u8]) 
 
 // The last line.
 fn list_last<W: Write>(lines: &mut Lines<W>, listing: Listing) {
-    let heard = listing.heard;
-    match heard {
-        Heard::Going => list_refusal(lines, 0, 0),
-        Heard::Finished => list_count(lines, listing.items),
-        Heard::Refused(refusal, place) => list_refusal(lines, refusal, place),
+    match listing.ending {
+        None => list_refusal(lines, 0, 0),
+        Some(Ending::Finished) => list_count(lines, listing.items),
+        Some(Ending::Refused(refusal, place)) => list_refusal(lines, refusal, place),
     }
 }
 
@@ -294,21 +225,15 @@ pub fn list<R: Read, W: Write + Drop>(reader: &mut R, writer: W) -> io::Result<(
         to: writer,
         written: Ok(()),
     };
-    let listed = list_all(
-        reader,
-        &mut lines,
-        Listing {
-            state,
-            items: 0,
-            heard: Heard::Going,
-        },
-        &mut text,
-    );
-    if listed.unread {
+    let first = Listing {
+        state,
+        items: 0,
+        ending: None,
+    };
+    let Ok(all) = list_all(reader, &mut lines, first, &mut text) else {
         print(&mut lines, b"unread\n");
         return lines.written;
-    }
-    let all = listed.listing;
+    };
     let rest = list_rest(&mut lines, all, &mut text);
     list_last(&mut lines, rest);
     lines.written

@@ -8,7 +8,7 @@ use native.Mathlib.Omega.{arith}
 use lib.ListN.{length, get_or, drop, take, length-drop, length-append}
 use lib.Dec.{ltb}
 use borrow.Author.Tests.{le-leb, lt-leb, lt-ltb, le-ltb}
-use Rattle.std.specs.Prelude.{if◌then◌else◌}
+use Rattle.std.specs.Prelude.{if◌then◌else◌, None, Option, Some}
 use Rattle.laws.proofs.Choice.{by_bool, impossible}
 use Rattle.chars.specs.Utf8.{Front, char, bad, cut, none, front, sequences, chars}
 use Rattle.chars.specs.Encode.{utf8, width, bytes_of}
@@ -18,8 +18,6 @@ use Rattle.chars.proofs.Chars.{chars-char, char-width}
 use Rattle.chars.proofs.Width.{width-utf8}
 use Rattle.lines.specs.Starts.{starts_from, starts}
 use Rattle.lines.specs.Place.{is_index, line_of, column, answered, line_start, place_of, locate_of}
-use Rattle.lines.specs.declared.Column.{Column}
-use Rattle.lines.specs.declared.Column.TheVariants.{Whole, Inside}
 use Rattle.lines.specs.Place.{At}
 use Rattle.lines.proofs.Tests.{by_less}
 use Rattle.lines.proofs.Columns.{column_done}
@@ -37,12 +35,12 @@ abbrev Passed : List ℕ → ℕ → ℕ → ℕ → ℕ → Type 0
 Passed l p at m r = (k : ℕ) × (r ≡ m + k) × (p ≡ at + length (bytes_of (take k (chars l))))
 
 abbrev Passing : ℕ → Type 0
-Passing n = (l : List ℕ) (p at m r : ℕ) → length l ≤ n → at ≤ p → p ≤ at + length l → column p m (sequences 0 at l) ≡ Whole r → Passed l p at m r
+Passing n = (l : List ℕ) (p at m r : ℕ) → length l ≤ n → at ≤ p → p ≤ at + length l → column p m (sequences 0 at l) ≡ Some r → Passed l p at m r
 
-here : (l : List ℕ) (p at m r : ℕ) → at ≤ p → p ≤ at → column p m (sequences 0 at l) ≡ Whole r → Passed l p at m r
+here : (l : List ℕ) (p at m r : ℕ) → at ≤ p → p ≤ at → column p m (sequences 0 at l) ≡ Some r → Passed l p at m r
 unfolding bytes_of
 here l p at m r h k e =
-    let f : Whole m ≡ Whole r = sym (column_done p m at l k) ∙ e in
+    let f : Some m ≡ Some r = sym (column_done p m at l k) ∙ e in
     let z : m ≡ r = cc in
     (0, omega arith, omega arith)
 
@@ -57,27 +55,27 @@ one_more l p at m r c w f v =
     (suc v.0, omega (arith, v.1), omega (arith, v.2, first))
 
 past : (n b : ℕ) (l : List ℕ) (p at m r : ℕ) → Passing n → length (b ∷ l) ≤ suc n → at < p → p ≤ at + length (b ∷ l)
-    → column p m (sequences 0 at (b ∷ l)) ≡ Whole r → Passed (b ∷ l) p at m r
+    → column p m (sequences 0 at (b ∷ l)) ≡ Some r → Passed (b ∷ l) p at m r
 unfolding column
 past n b l p at m r ih h a q e = go (front (b ∷ l)) refl
   where
     go : (F : Front) → front (b ∷ l) ≡ F → Passed (b ∷ l) p at m r
     go (char c w) f =
-        let shape : column p m (sequences 0 at (b ∷ l)) ≡ (if ltb p (at + w) then Inside else column p (m + 1) (sequences 0 (at + w) (drop w (b ∷ l)))) =
+        let shape : column p m (sequences 0 at (b ∷ l)) ≡ (if ltb p (at + w) then None else column p (m + 1) (sequences 0 (at + w) (drop w (b ∷ l)))) =
         rw (sequences-char at (b ∷ l) c w f, lt-leb p at a) in
         let some : 1 ≤ w = char_some (b ∷ l) c w f in
         let fits : w ≤ length (b ∷ l) = (subst (Spells (b ∷ l)) f (spells (b ∷ l))).2 in
         by_less p (at + w)
-        (λ k. let x : Inside ≡ Whole r = sym (shape ∙ rw (lt-ltb p (at + w) k)) ∙ e in impossible cc)
+        (λ k. let x : None ≡ Some r = sym (shape ∙ rw (lt-ltb p (at + w) k)) ∙ e in impossible cc)
         (λ k.
-        let x : column p (m + 1) (sequences 0 (at + w) (drop w (b ∷ l))) ≡ Whole r = sym (shape ∙ rw (le-ltb p (at + w) k)) ∙ e in
+        let x : column p (m + 1) (sequences 0 (at + w) (drop w (b ∷ l))) ≡ Some r = sym (shape ∙ rw (le-ltb p (at + w) k)) ∙ e in
         one_more (b ∷ l) p at m r c w f
         (ih (drop w (b ∷ l)) p (at + w) (m + 1) r (omega (arith, length-drop w (b ∷ l))) k (omega (arith, length-drop w (b ∷ l))) x))
     go (bad k) f =
-        let x : Inside ≡ Whole r = sym (rw (sequences-bad at (b ∷ l) k f, lt-leb p at a)) ∙ e in
+        let x : None ≡ Some r = sym (rw (sequences-bad at (b ∷ l) k f, lt-leb p at a)) ∙ e in
         impossible cc
     go cut f =
-        let x : Inside ≡ Whole r = sym (rw (sequences-cut at (b ∷ l) f, lt-leb p at a)) ∙ e in
+        let x : None ≡ Some r = sym (rw (sequences-cut at (b ∷ l) f, lt-leb p at a)) ∙ e in
         impossible cc
     go none f = absurd (not_none b l f)
 
@@ -135,9 +133,9 @@ abbrev Back : List ℕ → List ℕ → ℕ → ℕ → ℕ → Type 0
 Back s index p line col = (1 ≤ col) × (p ≡ line_start index line + length (bytes_of (take (col - 1) (chars (drop (line_start index line) s)))))
 
 module _ (s : List ℕ) (p line col : ℕ) where
-  by_column : (k : ℕ) (o : Column) → k < length (starts s) → get_or (starts s) k 0 ≤ p → p ≤ length s
+  by_column : (k : ℕ) (o : Option ℕ) → k < length (starts s) → get_or (starts s) k 0 ≤ p → p ≤ length s
       → column p 1 (sequences 0 (get_or (starts s) k 0) (drop (get_or (starts s) k 0) s)) ≡ o → answered p (k + 1) o ≡ At line col → Back s (starts s) p line col
-  by_column k (Whole n) a b c e q =
+  by_column k (Some n) a b c e q =
       let x : k + 1 ≡ line = cc in
       let y : n ≡ col = cc in
       let from = get_or (starts s) k 0 in
@@ -145,7 +143,7 @@ module _ (s : List ℕ) (p line col : ℕ) where
       let w : line - 1 ≡ k = omega arith in
       let u : col - 1 ≡ v.0 = omega (arith, v.1) in
       (omega (arith, v.1), rw (w, u) v.2)
-  by_column k Inside a b c e q = impossible cc
+  by_column k None a b c e q = impossible cc
 
 pub back : (s index : List ℕ) (p line col : ℕ) → locate_of s index p ≡ At line col
     → (1 ≤ col) × (p ≡ line_start index line + length (bytes_of (take (col - 1) (chars (drop (line_start index line) s)))))

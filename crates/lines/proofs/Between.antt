@@ -1,15 +1,15 @@
 -- A place between two characters of a text is answered: it lies inside no character (`Clear`), so the count of characters comes to it.
+use Rattle.std.proofs.Common.{Some, None}
 use mathlib.Core.Path.{◌≡◌, refl, sym, ap, subst, ◌∙◌}
 use mathlib.Core.Bool.{true}
 use mathlib.Core.List.{List, [], ◌∷◌}
 use mathlib.Core.Logic.{◌⊎◌, inl, inr}
-use Prim.Native.Nat.{ℕ, zero, suc, ◌+◌, ◌-◌, ◌≤◌}
+use Prim.Native.Nat.{ℕ, zero, suc, ◌+◌, ◌≤◌}
 use native.Mathlib.Omega.{arith}
 use lib.ListN.{length, drop, take, length-drop}
 use lib.Dec.{leb, ltb}
 use borrow.Author.Tests.{le-leb, le-ltb}
 use Rattle.laws.proofs.Choice.{by_bool, impossible}
-use Rattle.chars.specs.declared.Utf8.TheVariants.{Good, Bad}
 use Rattle.chars.specs.Utf8.{Front, char, bad, cut, none, front, Sequence, read, sequences, verdict, first_bad, chars}
 use Rattle.chars.specs.Encode.{width, bytes_of}
 use Rattle.chars.proofs.Sequences.{char_some, not_none, sequences-char, sequences-bad, sequences-cut}
@@ -17,7 +17,6 @@ use Rattle.chars.proofs.Spells.{Spells, spells}
 use Rattle.chars.proofs.Chars.{chars-char, char-width}
 use Rattle.chars.proofs.Good.{good_bytes_lem}
 use Rattle.lines.specs.Place.{is_index, line_of, column, since, line_start, place_of, locate_of}
-use Rattle.lines.specs.declared.Column.TheVariants.{Whole}
 use Rattle.lines.specs.Place.{At}
 use Rattle.lines.proofs.Index.{index_is}
 use Rattle.lines.proofs.Back.{length_bytes}
@@ -50,23 +49,23 @@ off_next l at p c w f (inr (suc k, e)) =
     (inr (omega (arith, e, first)), inr (k, omega (arith, e, first)))
 
 abbrev Clearing : ℕ → Type 0
-Clearing n = (l : List ℕ) (at p : ℕ) → length l ≤ n → verdict (sequences 0 at l) ≡ Good → Off l at p → Clear p (sequences 0 at l)
+Clearing n = (l : List ℕ) (at p : ℕ) → length l ≤ n → verdict (sequences 0 at l) ≡ None → Off l at p → Clear p (sequences 0 at l)
 
-clear_next : (n b : ℕ) (l : List ℕ) (at p : ℕ) → Clearing n → length (b ∷ l) ≤ suc n → verdict (sequences 0 at (b ∷ l)) ≡ Good → Off (b ∷ l) at p
+clear_next : (n b : ℕ) (l : List ℕ) (at p : ℕ) → Clearing n → length (b ∷ l) ≤ suc n → verdict (sequences 0 at (b ∷ l)) ≡ None → Off (b ∷ l) at p
     → Clear p (sequences 0 at (b ∷ l))
 clear_next n b l at p ih h g o = go (front (b ∷ l)) refl
   where
     go : (F : Front) → front (b ∷ l) ≡ F → Clear p (sequences 0 at (b ∷ l))
     go (char c w) f =
         let v = off_next (b ∷ l) at p c w f o in
-        let rest : verdict (sequences 0 (at + w) (drop w (b ∷ l))) ≡ Good = sym (ap verdict (sequences-char at (b ∷ l) c w f)) ∙ g in
+        let rest : verdict (sequences 0 (at + w) (drop w (b ∷ l))) ≡ None = sym (ap verdict (sequences-char at (b ∷ l) c w f)) ∙ g in
         let some : 1 ≤ w = char_some (b ∷ l) c w f in
         rw (sequences-char at (b ∷ l) c w f) (beside v.0 (ih (drop w (b ∷ l)) (at + w) p (omega (arith, length-drop w (b ∷ l))) rest v.1))
     go (bad k) f =
-        let z : Bad at ≡ Good = sym (ap verdict (sequences-bad at (b ∷ l) k f)) ∙ g in
+        let z : Some at ≡ None = sym (ap verdict (sequences-bad at (b ∷ l) k f)) ∙ g in
         impossible cc
     go cut f =
-        let z : Bad at ≡ Good = sym (ap verdict (sequences-cut at (b ∷ l) f)) ∙ g in
+        let z : Some at ≡ None = sym (ap verdict (sequences-cut at (b ∷ l) f)) ∙ g in
         impossible cc
     go none f = absurd (not_none b l f)
 
@@ -92,7 +91,7 @@ clear_since a p [] none_left = none_left
 clear_since a p (x ∷ l) (beside {c = c} {f = f} {t = t} h r) =
     by_bool (ltb f a) (λ e. rw e (clear_since a p l r)) (λ e. rw e (beside h r))
 
-clear_column : (p n : ℕ) (l : List Sequence) → Clear p l → (m : ℕ) × (column p n l ≡ Whole m)
+clear_column : (p n : ℕ) (l : List Sequence) → Clear p l → (m : ℕ) × (column p n l ≡ Some m)
 unfolding column
 clear_column p n [] none_left = (n, refl)
 clear_column p n (x ∷ l) (beside {f = f} {t = t} (inl h) r) = (n, rw (le-leb p f h))
@@ -107,7 +106,7 @@ few zero cs = omega arith
 few (suc k) [] = omega arith
 few (suc k) (c ∷ cs) = omega (arith, few k cs, length_bytes c (take k cs), length_bytes c cs)
 
-between_inside : (s : List ℕ) (p : ℕ) → first_bad s ≡ Good → Between s p → p ≤ length s
+between_inside : (s : List ℕ) (p : ℕ) → first_bad s ≡ None → Between s p → p ≤ length s
 between_inside s p g v = omega (arith, v.1, few v.0 (chars s), ap length (good_bytes_lem s g))
 
 pub answered_between : (s index : List ℕ) (p : ℕ) → is_index s index ≡ true → Between s p → (line : ℕ) × (col : ℕ) × (locate_of s index p ≡ At line col)

@@ -1,9 +1,10 @@
 -- A line starts where a character starts: the characters of a UTF-8 text are those before a line's start and those from it on.
+use Rattle.std.proofs.Common.{None}
 use mathlib.Core.Path.{◌≡◌, refl, sym, ap, ◌∙◌}
 use mathlib.Core.Bool.{◌&&◌}
 use mathlib.Core.List.{List, [], ◌∷◌, ◌++◌}
 use mathlib.Core.Logic.{◌⊎◌, ⊎_elim, inl, inr}
-use Prim.Native.Nat.{ℕ, zero, suc, ◌+◌, ◌-◌, ◌≤◌, ◌<◌}
+use Prim.Native.Nat.{ℕ, zero, suc, ◌+◌, ◌≤◌, ◌<◌}
 use native.Mathlib.Omega.{arith}
 use lib.ListN.{length, get_or, drop}
 use lib.Dec.{eqb, leb}
@@ -13,7 +14,6 @@ use Rattle.chars.specs.Machine.{step, start, told, run}
 use Rattle.chars.specs.declared.Begun.{Begun}
 use Rattle.chars.specs.declared.Step.{Step}
 use Rattle.chars.specs.declared.Step.TheVariants as steps
-use Rattle.chars.specs.declared.Utf8.TheVariants.{Good, Bad}
 use Rattle.laws.specs.Quoted.{within}
 use Rattle.laws.proofs.Choice.{if_all, impossible}
 use Rattle.chars.proofs.Run.{run-sequences, run_bad}
@@ -65,11 +65,11 @@ abbrev Split : List Sequence → ℕ → List ℕ → Type 0
 Split l a s = (pre : List Sequence) × (l ≡ pre ++ sequences 0 a s) × Early a pre
 
 abbrev Splitting : List ℕ → Type 0
-Splitting s = (t : Begun) (f at i : ℕ) → f ≤ at → Low t → verdict (run t f at s) ≡ Good → i < length s → get_or s i 0 ≡ newline
+Splitting s = (t : Begun) (f at i : ℕ) → f ≤ at → Low t → verdict (run t f at s) ≡ None → i < length s → get_or s i 0 ≡ newline
     → Split (run t f at s) (at + suc i) (drop (suc i) s)
 
 turns : (o : Step) (b : ℕ) (s : List ℕ) (f at i : ℕ) → Splitting s → f ≤ at → After o → i < length s → get_or s i 0 ≡ newline
-    → verdict (told o (λ u. run u f (at + 1) s) (λ c. read c f (at + 1) ∷ run start (at + 1) (at + 1) s) (broken f (at + 1) ∷ [])) ≡ Good
+    → verdict (told o (λ u. run u f (at + 1) s) (λ c. read c f (at + 1) ∷ run start (at + 1) (at + 1) s) (broken f (at + 1) ∷ [])) ≡ None
     → Split (told o (λ u. run u f (at + 1) s) (λ c. read c f (at + 1) ∷ run start (at + 1) (at + 1) s) (broken f (at + 1) ∷ [])) (at + 1 + suc i) (drop (suc i) s)
 turns (steps.More u) b s f at i ih w l h e g = ih u f (at + 1) i (omega arith) (inr l) g h e
 turns (steps.Char c) b s f at i ih w l h e g =
@@ -79,7 +79,7 @@ turns (steps.Char c) b s f at i ih w l h e g =
 turns steps.Bad b s f at i ih w l h e g = impossible cc
 
 passes : (o : Step) (s : List ℕ) (f at : ℕ) → f ≤ at → (o ≡ steps.Char newline) ⊎ (o ≡ steps.Bad)
-    → verdict (told o (λ u. run u f (at + 1) s) (λ c. read c f (at + 1) ∷ run start (at + 1) (at + 1) s) (broken f (at + 1) ∷ [])) ≡ Good
+    → verdict (told o (λ u. run u f (at + 1) s) (λ c. read c f (at + 1) ∷ run start (at + 1) (at + 1) s) (broken f (at + 1) ∷ [])) ≡ None
     → Split (told o (λ u. run u f (at + 1) s) (λ c. read c f (at + 1) ∷ run start (at + 1) (at + 1) s) (broken f (at + 1) ∷ [])) (at + 1) s
 passes o s f at w (inl e) =
     let early : f < at + 1 = omega arith in
@@ -95,7 +95,7 @@ splitting (b ∷ s) t f at (suc i) w l g h e =
     rw y (turns (step t b) b s f at i (splitting s) w (step_low t b) (omega arith) e g)
 
 -- the place after a newline byte of a UTF-8 text is one where a character starts, or the end
-pub line_bound : (s : List ℕ) (i : ℕ) → first_bad s ≡ Good → i < length s
+pub line_bound : (s : List ℕ) (i : ℕ) → first_bad s ≡ None → i < length s
     → get_or s i 0 ≡ newline → (pre : List Sequence) × (sequences 0 0 s ≡ pre ++ sequences 0 (suc i) (drop (suc i) s)) × Early (suc i) pre
 line_bound s i g h e =
     let y : 0 + suc i ≡ suc i = omega arith in
@@ -137,7 +137,7 @@ newlines (b ∷ s) at = go (newlines s (at + 1))
     go ih k = by_equal b newline (λ e. rw (eq-eqb b newline e) (hit ih e k)) (λ e. rw (ne_eqb b newline e) (λ h. later k (ih k h)))
 
 -- from a line's start on, the text's characters are those of the rest
-pub since_line : (s : List ℕ) (k : ℕ) → first_bad s ≡ Good → k < length (starts s) → since (get_or (starts s) k 0) (sequences 0 0 s) ≡ sequences 0 (get_or (starts s) k 0) (drop (get_or (starts s) k 0) s)
+pub since_line : (s : List ℕ) (k : ℕ) → first_bad s ≡ None → k < length (starts s) → since (get_or (starts s) k 0) (sequences 0 0 s) ≡ sequences 0 (get_or (starts s) k 0) (drop (get_or (starts s) k 0) s)
 since_line s zero g h = since_here 0 s
 since_line s (suc k) g h =
     let v = newlines s 0 k (omega arith) in

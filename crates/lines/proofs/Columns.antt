@@ -6,7 +6,7 @@ use lib.ListN.{length, get_or, drop}
 use lib.Seq.{drop-drop}
 use lib.Dec.{ltb}
 use borrow.Author.Tests.{le-leb, lt-leb, lt-ltb, le-ltb}
-use Rattle.std.specs.Prelude.{if◌then◌else◌}
+use Rattle.std.specs.Prelude.{if◌then◌else◌, None, Option, Some}
 use Rattle.laws.proofs.Choice.{impossible}
 use Rattle.laws.proofs.Places.{here}
 use Rattle.chars.specs.declared.Decoded.{Decoded}
@@ -14,22 +14,20 @@ use Rattle.chars.specs.declared.Decoded.TheVariants as decoded
 use Rattle.chars.specs.Utf8.{Front, char, bad, cut, none, front, placed, sequences}
 use Rattle.chars.proofs.Sequences.{not_none, sequences-char, sequences-bad, sequences-cut, sequences-none}
 use Rattle.lines.specs.Place.{column}
-use Rattle.lines.specs.declared.Column.{Column}
-use Rattle.lines.specs.declared.Column.TheVariants.{Whole, Inside}
 
 -- the column, by what stands at the place `at` before p
-abbrev pub said : List ℕ → ℕ → ℕ → Decoded → Column
-said s p n (decoded.Char c next) = if ltb p next then Inside else column p (n + 1) (sequences 0 next (drop next s))
-said s p n decoded.Bad = Inside
-said s p n decoded.Cut = Inside
-said s p n decoded.End = Whole n
+abbrev pub said : List ℕ → ℕ → ℕ → Decoded → Option ℕ
+said s p n (decoded.Char c next) = if ltb p next then None else column p (n + 1) (sequences 0 next (drop next s))
+said s p n decoded.Bad = None
+said s p n decoded.Cut = None
+said s p n decoded.End = Some n
 
 -- at the place or past it
-pub column_done : (p n at : ℕ) (l : List ℕ) → p ≤ at → column p n (sequences 0 at l) ≡ Whole n
+pub column_done : (p n at : ℕ) (l : List ℕ) → p ≤ at → column p n (sequences 0 at l) ≡ Some n
 unfolding column
 column_done p n at l h = go (front l) refl
   where
-    go : (F : Front) → front l ≡ F → column p n (sequences 0 at l) ≡ Whole n
+    go : (F : Front) → front l ≡ F → column p n (sequences 0 at l) ≡ Some n
     go (char d k) f = rw (sequences-char at l d k f, le-leb p at h)
     go (bad k) f = rw (sequences-bad at l k f, le-leb p at h)
     go cut f = rw (sequences-cut at l f, le-leb p at h)
@@ -47,7 +45,7 @@ module _ (s : List ℕ) (p n at : ℕ) where
       go none f = rw (sequences-none at (drop at s) f)
 
   -- a character that goes past the place; and one that does not
-  pub column_in : {d next : ℕ} → at < p → decoded.Char d next ≡ placed at (front (drop at s)) → p < next → column p n (sequences 0 at (drop at s)) ≡ Inside
+  pub column_in : {d next : ℕ} → at < p → decoded.Char d next ≡ placed at (front (drop at s)) → p < next → column p n (sequences 0 at (drop at s)) ≡ None
   column_in {d} {next} h e l = column_step h e ∙ rw (lt-ltb p next l)
 
   pub column_on : {d next : ℕ} → at < p → decoded.Char d next ≡ placed at (front (drop at s)) → next ≤ p

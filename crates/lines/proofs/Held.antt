@@ -1,4 +1,5 @@
 -- What the memory holds when a text has come in pieces.
+use Rattle.std.proofs.Common.{None, Option, Some}
 use mathlib.Core.Path.{◌≡◌, refl, sym, ap, ◌∙◌}
 use mathlib.Core.List.{List, [], ◌∷◌, ◌++◌, append_assoc, append-nil}
 use Prim.Native.Nat.{ℕ, zero, suc, ◌+◌, ◌-◌, ◌≤◌, ◌<◌}
@@ -8,8 +9,6 @@ use lib.Seq.{take_all, take-append-le, set_out, take-nil}
 use lib.Dec.{eqb}
 use borrow.Author.Tests.{lt-ltb, le-ltb, eq-eqb, ne_eqb}
 use Rattle.chars.specs.Utf8.{Sequence, read, broken, short, sequences, verdict, first_bad}
-use Rattle.chars.specs.declared.Utf8.{Utf8}
-use Rattle.chars.specs.declared.Utf8.TheVariants.{Good, Bad}
 use Rattle.chars.specs.Machine.{step, start, told, run}
 use Rattle.chars.specs.declared.Begun as begun
 use Rattle.chars.specs.declared.Step.{Step}
@@ -164,7 +163,7 @@ held s m =
 
 -- ---- a text that is served: the same index as in one
 
-shown_good : (l : List Sequence) (n : ℕ) → verdict l ≡ Good → shown l n ≡ n
+shown_good : (l : List Sequence) (n : ℕ) → verdict l ≡ None → shown l n ≡ n
 unfolding shown
 shown_good [] n e = refl
 shown_good (read c f t ∷ l) n e = shown_good l n e
@@ -176,12 +175,12 @@ fit_served l m k = by_less (length m) (length l)
     (λ h. rw (lt-ltb (length m) (length l) h) (λ e. let f : Refused lines_no_room (length l) ≡ Served k = e in impossible cc))
     (λ h. rw (le-ltb (length m) (length l) h) (λ e. (h, refl)))
 
-if_good_served : (v : Utf8) (l m : List ℕ) (k : ℕ) → (if_good v l m).answer ≡ Served k → (v ≡ Good) × (length l ≤ length m) × ((if_good v l m).memory ≡ written l m)
-if_good_served Good l m k = λ e. let f = fit_served l m k e in (refl, f.0, f.1)
-if_good_served (Bad p) l m k = λ e. let f : Refused not_utf8 p ≡ Served k = e in impossible cc
+if_good_served : (v : Option ℕ) (l m : List ℕ) (k : ℕ) → (if_good v l m).answer ≡ Served k → (v ≡ None) × (length l ≤ length m) × ((if_good v l m).memory ≡ written l m)
+if_good_served None l m k = λ e. let f = fit_served l m k e in (refl, f.0, f.1)
+if_good_served (Some p) l m k = λ e. let f : Refused not_utf8 p ≡ Served k = e in impossible cc
 
 build_served : (s m : List ℕ) (k : ℕ) → (build_of s m).answer ≡ Served k
-    → (length s ≤ limit) × (first_bad s ≡ Good) × (length (starts s) ≤ length m) × ((build_of s m).memory ≡ written (starts s) m)
+    → (length s ≤ limit) × (first_bad s ≡ None) × (length (starts s) ≤ length m) × ((build_of s m).memory ≡ written (starts s) m)
 unfolding build_of
 build_served s m k = by_less limit (length s)
     (λ h. rw (lt-ltb limit (length s) h) (λ e. let f : Refused over_long limit ≡ Served k = e in impossible cc))

@@ -1,7 +1,7 @@
 -- In pieces the same answer and the same index as in one.
 use mathlib.Core.Path.{◌≡◌, refl, sym, ap, ◌∙◌}
 use mathlib.Core.List.{List, [], ◌∷◌, ◌++◌}
-use Prim.Native.Nat.{ℕ, suc, ◌+◌, ◌-◌, ◌≤◌, ◌<◌}
+use Prim.Native.Nat.{ℕ, suc, ◌+◌, ◌≤◌, ◌<◌}
 use native.Mathlib.Omega.{arith}
 use native.Mathlib.Nat.{add-zero}
 use lib.ListN.{length, set}
@@ -12,10 +12,8 @@ use Rattle.chars.specs.Machine.{step, start, told, run}
 use Rattle.chars.specs.declared.Begun as begun
 use Rattle.chars.specs.declared.Step.{Step}
 use Rattle.chars.specs.declared.Step.TheVariants as steps
-use Rattle.chars.specs.declared.Utf8.{Utf8}
-use Rattle.chars.specs.declared.Utf8.TheVariants.{Good, Bad}
 use Rattle.chars.proofs.Run.{run_bad}
-use Rattle.std.specs.Prelude.{if◌then◌else◌}
+use Rattle.std.specs.Prelude.{if◌then◌else◌, None, Option, Some}
 use Rattle.refusal.specs.Refusals.{limit}
 use Rattle.lines.specs.Starts.{newline, starts_from, starts, if_good, build_of}
 use Rattle.lines.specs.Pieces.{Fed, fed, fresh, open_of, moved_of, stopped_of, step_of, noted, fed_of, end_of, pieces, joined}
@@ -55,11 +53,11 @@ cut ps m = cut_from ps (open_of m) (omega arith)
 abbrev fits : ℕ → ℕ → Told
 fits k n = if ltb n k then Refused lines_no_room k else Served k
 
-abbrev by : Utf8 → ℕ → ℕ → Told
-by (Bad p) k n = Refused not_utf8 p
-by Good k n = fits k n
+abbrev by : Option ℕ → ℕ → ℕ → Told
+by (Some p) k n = Refused not_utf8 p
+by None k n = fits k n
 
-abbrev said : ℕ → Utf8 → ℕ → ℕ → Told
+abbrev said : ℕ → Option ℕ → ℕ → ℕ → Told
 said len v k n = if ltb limit len then Refused over_long limit else by v k n
 
 no_grow : (t : LineState) (m : List ℕ) → noted t t m ≡ m
@@ -88,10 +86,10 @@ fed_nil t m = refl
 pub below : (x : ℕ) → x ≤ limit → (x ≡ limit → ⊥) → x + 1 ≤ limit
 below x a q = by_less x limit (λ l. omega arith) (λ l. absurd (q (omega arith)))
 
-said_same : {l l' : ℕ} {v v' : Utf8} {k k' : ℕ} (n : ℕ) → l ≡ l' → v ≡ v' → k ≡ k' → said l v k n ≡ said l' v' k' n
+said_same : {l l' : ℕ} {v v' : Option ℕ} {k k' : ℕ} (n : ℕ) → l ≡ l' → v ≡ v' → k ≡ k' → said l v k n ≡ said l' v' k' n
 said_same n a b c = rw (a, b, c)
 
-said_as : (v : Utf8) {l l' : ℕ} {k k' : ℕ} (n : ℕ) → l ≡ l' → k ≡ k' → said l v k n ≡ said l' v k' n
+said_as : (v : Option ℕ) {l l' : ℕ} {k k' : ℕ} (n : ℕ) → l ≡ l' → k ≡ k' → said l v k n ≡ said l' v k' n
 said_as v n a c = rw (a, c)
 
 end_bad : (t : LineState) (n : ℕ) → t.lines ≤ t.at → t.stop ≡ not_utf8 → end_of t n ≡ Refused not_utf8 t.from
@@ -175,9 +173,9 @@ answers (b ∷ s) t m n h a e =
     ap (λ (f : Fed). end_of f.state n) (fed_cons t b s m (step_full t b z q)) ∙ ends_full s t (noted t (stopped_of t limit over_long) m) n (omega arith) ∙ rw (lt-ltb limit (t.at + suc (length s)) y))
     (λ q. by_step (step t.begun b) b s t m n (answers s) h a e q refl)
 
-given : (v : Utf8) (l m : List ℕ) → (if_good v l m).answer ≡ by v (length l) (length m)
-given (Bad p) l m = refl
-given Good l m = by_bool (ltb (length m) (length l)) (λ e. rw e) (λ e. rw e)
+given : (v : Option ℕ) (l m : List ℕ) → (if_good v l m).answer ≡ by v (length l) (length m)
+given (Some p) l m = refl
+given None l m = by_bool (ltb (length m) (length l)) (λ e. rw e) (λ e. rw e)
 
 build_answer : (s m : List ℕ) → (build_of s m).answer ≡ said (length s) (first_bad s) (length (starts s)) (length m)
 unfolding build_of

@@ -1,16 +1,13 @@
 -- "Given an index and a byte place, answer line and column, both from 1, the column in characters."
-use Rattle.std.specs.Prelude.{ℕ, ◌+◌, ◌-◌, ◌≤◌, ◌<◌, Bool, false, List, [], ◌∷◌, leb, ltb, length, get_or, if◌then◌else◌}
+use Rattle.std.specs.Prelude.{ℕ, ◌+◌, ◌-◌, ◌≤◌, ◌<◌, Bool, false, List, [], ◌∷◌, leb, ltb, length, get_or, if◌then◌else◌, None, Option, Some, Result, Ok, Err}
 use Rattle.laws.specs.Texts.{same}
 use Rattle.refusal.specs.Refusals.{no_place, alien}
 use Rattle.chars.specs.Utf8.{first_bad, Sequence, read, broken, short, sequences}
-use Rattle.chars.specs.declared.Utf8.{Utf8}
-use Rattle.chars.specs.declared.Utf8.TheVariants.{Good, Bad}
 use Rattle.refusal.specs.Refusals.{limit}
 use Rattle.lines.specs.Starts.{starts}
-use Rattle.lines.specs.declared.Column.{Column}
-use Rattle.lines.specs.declared.Column.TheVariants.{Whole, Inside}
-use Rattle.lines.specs.declared.Located.{Located}
-use Rattle.lines.specs.declared.Located.TheVariants as enum
+use Rattle.lines.specs.declared.LineColumn.{LineColumn}
+use Rattle.lines.specs.declared.LocateError.{LocateError}
+use Rattle.lines.specs.declared.LocateError.TheVariants as error
 
 -- line and column, both from 1; or 01's number of a refusal, and what it comes with
 pub data Where : Type 0 where
@@ -18,13 +15,14 @@ pub data Where : Type 0 where
   Refused : ℕ → ℕ → Where
 
 -- what each answer of the question means
-abbrev pub where_of : Located → Where
-where_of (enum.At line column) = At line column
-where_of (enum.Refused number place) = Refused number place
+abbrev pub where_of : Result LineColumn LocateError → Where
+where_of (Ok found) = At found.line found.column
+where_of (Err error.Alien) = Refused alien 0
+where_of (Err (error.NoPlace place)) = Refused no_place place
 
-abbrev pub good_and : Utf8 → Bool → Bool
-good_and Good t = t
-good_and (Bad at) t = false
+abbrev pub good_and : Option ℕ → Bool → Bool
+good_and None t = t
+good_and (Some at) t = false
 
 -- an index is a text's if the building call, given room, serves that text and gives that index
 unfoldable pub is_index : List ℕ → List ℕ → Bool
@@ -37,11 +35,11 @@ line_of p (s ∷ ss) j found = line_of p ss (j + 1) (if leb s p then j else foun
 
 -- The column of place p, by the characters from its line's start on, where n counts those passed, and one more: p is where a character
 -- starts or the text ends, or it lies inside a character.
-unfoldable pub column : ℕ → ℕ → List Sequence → Column
-column p n [] = Whole n
-column p n (read c f t ∷ l) = let more = column p (n + 1) l in if leb p f then Whole n else if ltb p t then Inside else more
-column p n (broken f t ∷ l) = if leb p f then Whole n else Inside
-column p n (short f ∷ l) = if leb p f then Whole n else Inside
+unfoldable pub column : ℕ → ℕ → List Sequence → Option ℕ
+column p n [] = Some n
+column p n (read c f t ∷ l) = let more = column p (n + 1) l in if leb p f then Some n else if ltb p t then None else more
+column p n (broken f t ∷ l) = if leb p f then Some n else None
+column p n (short f ∷ l) = if leb p f then Some n else None
 
 -- the characters of a text that start at place a or later
 unfoldable pub since : ℕ → List Sequence → List Sequence
@@ -50,9 +48,9 @@ since a (read c f t ∷ l) = let more = since a l in if ltb f a then more else r
 since a (broken f t ∷ l) = let more = since a l in if ltb f a then more else broken f t ∷ l
 since a (short f ∷ l) = let more = since a l in if ltb f a then more else short f ∷ l
 
-abbrev pub answered : ℕ → ℕ → Column → Where
-answered p line (Whole n) = At line n
-answered p line Inside = Refused no_place p
+abbrev pub answered : ℕ → ℕ → Option ℕ → Where
+answered p line (Some n) = At line n
+answered p line None = Refused no_place p
 
 -- where the line with this number starts
 abbrev pub line_start : List ℕ → ℕ → ℕ

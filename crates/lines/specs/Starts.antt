@@ -1,14 +1,12 @@
 -- "The byte place of each line start (after every newline byte)": place 0, and the place after every newline byte. The call that builds
 -- the index.
-use Rattle.std.specs.Prelude.{ℕ, ◌+◌, List, [], ◌∷◌, eqb, ltb, length, if◌then◌else◌}
+use Rattle.std.specs.Prelude.{ℕ, ◌+◌, List, [], ◌∷◌, eqb, ltb, length, if◌then◌else◌, None, Option, Some, Result, Ok, Err}
 use Rattle.laws.specs.Lent.{written}
-use Rattle.refusal.specs.Refusals.{over_long, not_utf8, lines_no_room}
+use Rattle.refusal.specs.Refusals.{over_long, not_utf8, out_of_bounds, lines_no_room, alien}
 use Rattle.chars.specs.Utf8.{first_bad}
-use Rattle.chars.specs.declared.Utf8.{Utf8}
-use Rattle.chars.specs.declared.Utf8.TheVariants.{Good, Bad}
 use Rattle.refusal.specs.Refusals.{limit}
-use Rattle.lines.specs.declared.LinesAnswer.{LinesAnswer}
-use Rattle.lines.specs.declared.LinesAnswer.TheVariants as answer
+use Rattle.lines.specs.declared.LinesError.{LinesError}
+use Rattle.lines.specs.declared.LinesError.TheVariants as error
 
 -- U+000A, which UTF-8 writes as this byte and uses in no other character
 abbrev pub newline : ℕ
@@ -29,9 +27,13 @@ pub data Told : Type 0 where
   Refused : ℕ → ℕ → Told
 
 -- what each answer of the calls means
-abbrev pub told_of : LinesAnswer → Told
-told_of (answer.Served n) = Served n
-told_of (answer.Refused number value) = Refused number value
+abbrev pub told_of : Result ℕ LinesError → Told
+told_of (Ok n) = Served n
+told_of (Err error.TooLong) = Refused over_long limit
+told_of (Err (error.NotUtf8 at)) = Refused not_utf8 at
+told_of (Err error.OutOfBounds) = Refused out_of_bounds 0
+told_of (Err (error.NoRoom needed)) = Refused lines_no_room needed
+told_of (Err error.Alien) = Refused alien 0
 
 -- an answer, and what the lent memory then holds
 pub record Outcome : Type 0 where
@@ -45,9 +47,9 @@ outcome a m = record { answer = a; memory = m }
 abbrev pub fit : List ℕ → List ℕ → Outcome
 fit l memory = if ltb (length memory) (length l) then outcome (Refused lines_no_room (length l)) memory else outcome (Served (length l)) (written l memory)
 
-abbrev pub if_good : Utf8 → List ℕ → List ℕ → Outcome
-if_good (Bad at) l memory = outcome (Refused not_utf8 at) memory
-if_good Good l memory = fit l memory
+abbrev pub if_good : Option ℕ → List ℕ → List ℕ → Outcome
+if_good (Some at) l memory = outcome (Refused not_utf8 at) memory
+if_good None l memory = fit l memory
 
 -- "20 and 21 first; then 33"
 unfoldable pub build_of : List ℕ → List ℕ → Outcome

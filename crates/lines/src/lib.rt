@@ -5,31 +5,94 @@
 // lines_calls.
 #![tactic(auto)]
 
+ghost use Rattle.std.specs.Prelude.{◌≡◌, Err};
+ghost use Rattle.lines.specs.Starts.{told_of};
+ghost use Rattle.lines.specs.Place.{where_of};
+ghost use Rattle.lines.specs.Numbers.{answer_number, answer_value, located_number, located_first};
+
 use chars::Begun;
+use refusal::{ALIEN, LIMIT, LINES_NO_ROOM, NO_PLACE, NOT_UTF8, OUT_OF_BOUNDS, TOO_LONG};
 
-// Served with a count, or refused with document 01's number and what comes with it.
+// Why an index is not built, or many places are not answered.
 #[derive(Clone, Copy)]
-pub enum LinesAnswer {
-    // how many line starts the index has, or how many places were answered
-    Served(usize),
-    Refused(u32, usize),
+pub enum LinesError {
+    // the text exceeds LIMIT bytes
+    TooLong,
+    // bytes aren't UTF-8; with the start of the first bad sequence
+    NotUtf8(usize),
+    // a state outside its bounds
+    OutOfBounds,
+    // the line starts, or the answers, don't fit; with the number needed
+    NoRoom(usize),
+    // the index isn't the text's
+    Alien,
 }
 
-// What the question answers.
-#[derive(Clone, Copy)]
-pub enum Located {
-    // the line and the column, both from 1
-    At(usize, usize),
-    Refused(u32, usize),
+impl LinesError {
+    // Document 01's number of the refusal.
+    pub fn number(self) -> u32
+        ensures { result ≡ answer_number (told_of (Err self)) }
+    {
+        match self {
+            LinesError::TooLong => TOO_LONG,
+            LinesError::NotUtf8(_) => NOT_UTF8,
+            LinesError::OutOfBounds => OUT_OF_BOUNDS,
+            LinesError::NoRoom(_) => LINES_NO_ROOM,
+            LinesError::Alien => ALIEN,
+        }
+    }
+
+    // What the refusal comes with.
+    pub fn value(self) -> usize
+        ensures { result ≡ answer_value (told_of (Err self)) }
+    {
+        match self {
+            LinesError::TooLong => LIMIT,
+            LinesError::NotUtf8(at) => at,
+            LinesError::OutOfBounds => 0,
+            LinesError::NoRoom(needed) => needed,
+            LinesError::Alien => 0,
+        }
+    }
 }
 
-// Where a place stands in its line.
+// Where a byte place lies, both from 1.
 #[derive(Clone, Copy)]
-pub enum Column {
-    // where a character starts, or at the end: its column, from 1
-    Whole(usize),
-    // inside a character: place 1 of λ
-    Inside,
+pub struct LineColumn {
+    pub line: usize,
+    // in characters
+    pub column: usize,
+}
+
+// Why a place is not answered.
+#[derive(Clone, Copy)]
+pub enum LocateError {
+    // the index isn't the text's
+    Alien,
+    // the place lies past the end or inside a character; with the place
+    NoPlace(usize),
+}
+
+impl LocateError {
+    // Document 01's number of the refusal.
+    pub fn number(self) -> u32
+        ensures { result ≡ located_number (where_of (Err self)) }
+    {
+        match self {
+            LocateError::Alien => ALIEN,
+            LocateError::NoPlace(_) => NO_PLACE,
+        }
+    }
+
+    // What the refusal comes with.
+    pub fn value(self) -> usize
+        ensures { result ≡ located_first (where_of (Err self)) }
+    {
+        match self {
+            LocateError::Alien => 0,
+            LocateError::NoPlace(place) => place,
+        }
+    }
 }
 
 // The index of a text that comes in pieces.
@@ -43,6 +106,6 @@ pub struct LineState {
     pub at: u32,
     // how many newline bytes are among them
     pub lines: u32,
-    // the refusal that was shown, 20 or 21, or 0
+    // the refusal that was shown, 20 or 21, or 0: a number, since a state is words in lent memory
     pub stop: u32,
 }

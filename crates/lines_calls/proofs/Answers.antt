@@ -1,4 +1,5 @@
 -- The calls, from what their parts find.
+use Rattle.std.proofs.Common.{Option, None, Some}
 use mathlib.Core.Path.{◌≡◌, refl, sym, ◌∙◌, subst}
 use mathlib.Core.Bool.{Bool, true, false}
 use mathlib.Core.List.{List, [], ◌∷◌}
@@ -11,13 +12,11 @@ use Rattle.laws.specs.Texts.{same}
 use Rattle.laws.proofs.Places.{past, here}
 use Rattle.refusal.specs.Refusals.{over_long, not_utf8, lines_no_room, no_place, alien}
 use Rattle.chars.specs.Utf8.{first_bad, sequences}
-use Rattle.chars.specs.declared.Utf8.TheVariants.{Good, Bad}
 use Rattle.refusal.specs.Refusals.{limit}
 use Rattle.lines.specs.Starts.{starts, outcome, build_of}
 use Rattle.lines.specs.Starts as answer
 use Rattle.lines.specs.Place.{Where, Refused, is_index, line_of, column, since, answered, place_of, locate_of, Search}
 use Rattle.lines.specs.Many.{line_word, column_word, answers, locate_all_of}
-use Rattle.lines.specs.declared.Column.{Column}
 use Rattle.lines.proofs.Line.{starts_search}
 use Rattle.lines.proofs.Bounds.{since_line}
 use Rattle.lines.proofs.Index.{index_is}
@@ -32,15 +31,15 @@ module _ (s memory : List ℕ) where
   builds_long h = rw (lt-ltb limit (length s) h)
 
   module _ (h : length s ≤ limit) where
-    pub builds_bad : {at : ℕ} → first_bad s ≡ Bad at → outcome (answer.Refused not_utf8 at) memory ≡ build_of s memory
+    pub builds_bad : {at : ℕ} → first_bad s ≡ Some at → outcome (answer.Refused not_utf8 at) memory ≡ build_of s memory
     unfolding build_of
     builds_bad e = rw (le-ltb limit (length s) h, e)
 
-    pub builds_short : {n : ℕ} → first_bad s ≡ Good → n ≡ length (starts s) → length memory < n → outcome (answer.Refused lines_no_room n) memory ≡ build_of s memory
+    pub builds_short : {n : ℕ} → first_bad s ≡ None → n ≡ length (starts s) → length memory < n → outcome (answer.Refused lines_no_room n) memory ≡ build_of s memory
     unfolding build_of
     builds_short {n} e c l = rw (le-ltb limit (length s) h, e, ← c, lt-ltb (length memory) n l)
 
-    pub builds_all : {n : ℕ} {now : List ℕ} → first_bad s ≡ Good → n ≡ length (starts s) → n ≤ length memory → now ≡ written (starts s) memory
+    pub builds_all : {n : ℕ} {now : List ℕ} → first_bad s ≡ None → n ≡ length (starts s) → n ≤ length memory → now ≡ written (starts s) memory
         → outcome (answer.Served n) now ≡ build_of s memory
     unfolding build_of
     builds_all {n} e c l w = rw (w, le-ltb limit (length s) h, e, ← c, le-ltb (length memory) n l)
@@ -52,11 +51,11 @@ module _ (s index : List ℕ) where
   unfolding is_index
   index_long h = rw (lt-ltb limit (length s) h)
 
-  pub index_bad : {at : ℕ} → length s ≤ limit → first_bad s ≡ Bad at → false ≡ is_index s index
+  pub index_bad : {at : ℕ} → length s ≤ limit → first_bad s ≡ Some at → false ≡ is_index s index
   unfolding is_index
   index_bad h e = rw (le-ltb limit (length s) h, e)
 
-  pub index_good : {r : Bool} → length s ≤ limit → first_bad s ≡ Good → r ≡ same (starts s) index → r ≡ is_index s index
+  pub index_good : {r : Bool} → length s ≤ limit → first_bad s ≡ None → r ≡ same (starts s) index → r ≡ is_index s index
   unfolding is_index
   index_good h e q = rw (le-ltb limit (length s) h, e) q
 
@@ -88,7 +87,7 @@ module _ (s index : List ℕ) where
           (λ k. since_line s line (index_is s index e).1 k)
           h
 
-      pub place_found : (line : ℕ) {o : Column} → p ≤ length s → line < length index → line + 1 ≡ line_of p index 1 0
+      pub place_found : (line : ℕ) {o : Option ℕ} → p ≤ length s → line < length index → line + 1 ≡ line_of p index 1 0
           → column p 1 (sequences 0 (get_or index line 0) (drop (get_or index line 0) s)) ≡ o → answered p (line + 1) o ≡ place_of s index p
       unfolding place_of
       place_found line {o} h k l c =

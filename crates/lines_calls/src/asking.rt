@@ -8,9 +8,9 @@ ghost use Rattle.lines.specs.Place.{where_of, is_index, line_of, column, place_o
 ghost use Rattle.lines.specs.Many.{line_word, column_word, answers, locate_all_of};
 
 use byte_runs::find;
-use chars::{Decoded, Utf8};
-use lines::{Column, LinesAnswer, Located};
-use refusal::{ALIEN, LIMIT, LINES_NO_ROOM, NO_PLACE};
+use chars::Decoded;
+use lines::{LineColumn, LinesError, LocateError};
+use refusal::LIMIT;
 
 fn wide(x: u32) -> usize
     ensures { result ≡ x }
@@ -51,8 +51,8 @@ fn is_index(text: &[u8], index: &[u32]) -> bool
         return false;
     }
     match chars::first_bad(text) {
-        Utf8::Bad(_) => false,
-        Utf8::Good => same_starts(text, index),
+        Some(_) => false,
+        None => same_starts(text, index),
     }
 }
 
@@ -75,7 +75,7 @@ fn line_at(index: &[u32], place: usize) -> usize
 }
 
 // The column of a place in the line that starts at `from`.
-fn column_at(text: &[u8], from: usize, place: usize) -> Column
+fn column_at(text: &[u8], from: usize, place: usize) -> Option<usize>
     requires { place ≤ length text.now }
     ensures { result ≡ column place 1 (sequences 0 from (drop from text.now)) }
 {
@@ -85,68 +85,69 @@ fn column_at(text: &[u8], from: usize, place: usize) -> Column
         match chars::decode_at(text, at) {
             Decoded::Char { code: _, next } => {
                 if place < next {
-                    return Column::Inside;
+                    return None;
                 }
                 at = next;
                 n += 1;
             }
             Decoded::Bad => {
-                return Column::Inside;
+                return None;
             }
             Decoded::Cut => {
-                return Column::Inside;
+                return None;
             }
             Decoded::End => {
-                return Column::Inside;
+                return None;
             }
         }
     }
-    Column::Whole(n)
+    Some(n)
 }
 
 // Line and column of a place, where the index is the text's: the last line that starts at or before it, and the characters since.
-fn place_at(text: &[u8], index: &[u32], place: usize) -> Located
+fn place_at(text: &[u8], index: &[u32], place: usize) -> Result<LineColumn, LocateError>
     requires { is_index text.now index.now ≡ true }
     ensures { where_of result ≡ place_of text.now index.now place }
 {
     if text.len() < place {
-        return Located::Refused(NO_PLACE, place);
+        return Err(LocateError::NoPlace(place));
     }
     let line = line_at(index, place);
     let from = wide(index[line]);
-    match column_at(text, from, place) {
-        Column::Whole(n) => Located::At(line + 1, n),
-        Column::Inside => Located::Refused(NO_PLACE, place),
-    }
+    let column = column_at(text, from, place).ok_or(LocateError::NoPlace(place))?;
+    Ok(LineColumn {
+        line: line + 1,
+        column,
+    })
 }
 
 // Line and column of a byte place, by the index of the text.
-pub fn locate(text: &[u8], index: &[u32], place: usize) -> Located
+pub fn locate(text: &[u8], index: &[u32], place: usize) -> Result<LineColumn, LocateError>
     ensures { where_of result ≡ locate_of text.now index.now place }
 {
     if is_index(text, index) {
         return place_at(text, index, place);
     }
-    Located::Refused(ALIEN, 0)
+    Err(LocateError::Alien)
 }
 
 // An answer's line, or 0 for a refusal.
-fn line_word(r: Located) -> usize
+fn line_word(r: Result<LineColumn, LocateError>) -> usize
     ensures { result ≡ line_word (where_of r) }
 {
     match r {
-        Located::At(line, _) => line,
-        Located::Refused(_, _) => 0,
+        Ok(found) => found.line,
+        Err(_) => 0,
     }
 }
 
 // An answer's column, or a refusal's number.
-fn column_word(r: Located) -> usize
+fn column_word(r: Result<LineColumn, LocateError>) -> usize
     ensures { result ≡ column_word (where_of r) }
 {
     match r {
-        Located::At(_, column) => column,
-        Located::Refused(number, _) => wide(number),
+        Ok(found) => found.column,
+        Err(e) => wide(e.number()),
     }
 }
 
@@ -155,29 +156,30 @@ fn put_answers(text: &[u8], index: &[u32], places: &[u32], found: &mut [usize])
     requires { (is_index text.now index.now ≡ true) × (2 * length places.now ≤ length found.old) }
     ensures { found.new ≡ written (answers text.now index.now places.now) found.old }
 {
-    let mut at: usize = 0;
-    let mut k: usize = 0;
-    while k < places.len() {
+    for k in 0..places.len() {
         let r = place_at(text, index, wide(places[k]));
-        found[at] = line_word(r);
-        found[at + 1] = column_word(r);
-        at += 2;
-        k += 1;
+        found[2 * k] = line_word(r);
+        found[2 * k + 1] = column_word(r);
     }
 }
 
 // Line and column of many places, in any order, with one look at the text's index: two numbers for each, as `line_word` and
 // `column_word` have them.
-pub fn locate_all(text: &[u8], index: &[u32], places: &[u32], found: &mut [usize]) -> LinesAnswer
+pub fn locate_all(
+    text: &[u8],
+    index: &[u32],
+    places: &[u32],
+    found: &mut [usize],
+) -> Result<usize, LinesError>
     ensures { outcome (told_of result) found.new ≡ locate_all_of text.now index.now places.now found.old }
 {
     if is_index(text, index) {
         let n = places.len();
         if found.len() < 2 * n {
-            return LinesAnswer::Refused(LINES_NO_ROOM, 2 * n);
+            return Err(LinesError::NoRoom(2 * n));
         }
         put_answers(text, index, places, found);
-        return LinesAnswer::Served(n);
+        return Ok(n);
     }
-    LinesAnswer::Refused(ALIEN, 0)
+    Err(LinesError::Alien)
 }

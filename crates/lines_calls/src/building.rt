@@ -5,9 +5,8 @@ ghost use Rattle.refusal.specs.Refusals.{limit};
 ghost use Rattle.lines.specs.Starts.{newline, starts, told_of, outcome, build_of};
 ghost use Rattle.lines_calls.specs.Left.{left, Storing, block, wide};
 
-use chars::Utf8;
-use lines::LinesAnswer;
-use refusal::{LIMIT, LINES_NO_ROOM, NOT_UTF8, TOO_LONG};
+use lines::LinesError;
+use refusal::LIMIT;
 
 // How many bytes are stored of at once.
 const STORED_AT_ONCE: usize = 16;
@@ -19,10 +18,7 @@ const WIDE: usize = 192;
 fn if_newline(b: u8) -> u8
     ensures { result ≡ (if eqb b newline then 1 else 0) }
 {
-    if b == b'\n' {
-        return 1;
-    }
-    0
+    if b == b'\n' { 1 } else { 0 }
 }
 
 // How many newline bytes stand in a part of the text, which is no longer than WIDE.
@@ -31,10 +27,8 @@ fn count_part(text: &[u8], at: usize, bytes: usize) -> u8
     ensures { (result ≤ bytes) × (length (left text.now at) ≡ result + length (left text.now (at + bytes))) }
 {
     let mut n: u8 = 0;
-    let mut j: usize = 0;
-    while j < bytes {
+    for j in 0..bytes {
         n += if_newline(text[at + j]);
-        j += 1;
     }
     n
 }
@@ -58,12 +52,10 @@ fn has_newline(text: &[u8], at: usize) -> bool
     ensures { result ≡ false → left text.now at ≡ left text.now (at + block) }
 {
     let mut found = false;
-    let mut j: usize = 0;
-    while j < STORED_AT_ONCE {
+    for j in 0..STORED_AT_ONCE {
         if text[at + j] == b'\n' {
             found = true;
         }
-        j += 1;
     }
     found
 }
@@ -74,14 +66,10 @@ fn put_bytes(text: &[u8], from: usize, to: usize, index: &mut [u32], n: usize) -
     ensures { Storing text.now index.old n from index.new result to }
 {
     let mut k = n;
-    let mut i = from;
-    while i < to {
+    for i in from..to {
         if text[i] == b'\n' {
-            i += 1;
-            index[k] = i as u32;
+            index[k] = (i + 1) as u32;
             k += 1;
-        } else {
-            i += 1;
         }
     }
     k
@@ -114,24 +102,22 @@ fn put(text: &[u8], index: &mut [u32]) -> usize
 }
 
 // Builds the index of a whole text.
-pub fn build(text: &[u8], index: &mut [u32]) -> LinesAnswer
+pub fn build(text: &[u8], index: &mut [u32]) -> Result<usize, LinesError>
     ensures { outcome (told_of result) index.new ≡ build_of text.now index.old }
 {
     if LIMIT < text.len() {
-        return LinesAnswer::Refused(TOO_LONG, LIMIT);
+        return Err(LinesError::TooLong);
     }
-    match chars::first_bad(text) {
-        Utf8::Bad(at) => LinesAnswer::Refused(NOT_UTF8, at),
-        Utf8::Good => {
-            if text.len() < index.len() {
-                return LinesAnswer::Served(put(text, index));
-            }
-            let n = count(text);
-            if index.len() < n {
-                return LinesAnswer::Refused(LINES_NO_ROOM, n);
-            }
-            put(text, index);
-            LinesAnswer::Served(n)
-        }
+    if let Some(at) = chars::first_bad(text) {
+        return Err(LinesError::NotUtf8(at));
     }
+    if text.len() < index.len() {
+        return Ok(put(text, index));
+    }
+    let n = count(text);
+    if index.len() < n {
+        return Err(LinesError::NoRoom(n));
+    }
+    put(text, index);
+    Ok(n)
 }

@@ -9,8 +9,7 @@ ghost use Rattle.lines.specs.Words.{state_words, listed, state_in, is_a_state, c
 
 use crate::pieces;
 use chars::Begun;
-use lines::{LineState, LinesAnswer};
-use refusal::OUT_OF_BOUNDS;
+use lines::{LineState, LinesError};
 
 // How many words a state has.
 const LINE_STATE_WORDS: usize = 8;
@@ -22,16 +21,10 @@ const BYTE_TOP: u32 = 255;
 fn is_state(words: &[u32]) -> bool
     ensures { result ≡ is_a_state words.now }
 {
-    if words.len() != LINE_STATE_WORDS {
-        return false;
-    }
-    if BYTE_TOP < words[0] {
-        return false;
-    }
-    if BYTE_TOP < words[1] {
-        return false;
-    }
-    words[2] <= BYTE_TOP
+    words.len() == LINE_STATE_WORDS
+        && words[0] <= BYTE_TOP
+        && words[1] <= BYTE_TOP
+        && words[2] <= BYTE_TOP
 }
 
 // The state that words stand for.
@@ -92,11 +85,11 @@ pub fn piece(words: &mut [u32], bytes: &[u8], index: &mut [u32])
 }
 
 // The declared end: the index is built, or why not.
-pub fn end(words: &[u32], index: &[u32]) -> LinesAnswer
+pub fn end(words: &[u32], index: &[u32]) -> Result<usize, LinesError>
     ensures { told_of result ≡ end_for words.now (length index.now) }
 {
     if is_state(words) {
         return pieces::end(state_in(words), index);
     }
-    LinesAnswer::Refused(OUT_OF_BOUNDS, 0)
+    Err(LinesError::OutOfBounds)
 }

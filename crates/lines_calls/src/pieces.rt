@@ -6,8 +6,8 @@ ghost use Rattle.lines.specs.Starts.{told_of};
 ghost use Rattle.lines.specs.Pieces.{fed, open_of, moved_of, stopped_of, step_of, fed_of, piece_of, end_of};
 
 use chars::{Begun, Step};
-use lines::{LineState, LinesAnswer};
-use refusal::{LIMIT, LINES_NO_ROOM, NOT_UTF8, OUT_OF_BOUNDS, TOO_LONG};
+use lines::{LineState, LinesError};
+use refusal::{LIMIT, NOT_UTF8, TOO_LONG};
 
 // The last place that there is: the end of the longest text.
 const LAST_PLACE: u32 = LIMIT as u32;
@@ -65,21 +65,12 @@ fn moved(t: LineState, b: u8, begun: Begun, from: u32) -> LineState
     requires { (t.lines ≤ t.at) × (t.at < limit) }
     ensures { result ≡ moved_of t b begun from }
 {
-    let at = t.at + 1;
-    if b == b'\n' {
-        return LineState {
-            begun,
-            from,
-            at,
-            lines: t.lines + 1,
-            stop: NO_REFUSAL,
-        };
-    }
+    let lines = if b == b'\n' { t.lines + 1 } else { t.lines };
     LineState {
         begun,
         from,
-        at,
-        lines: t.lines,
+        at: t.at + 1,
+        lines,
         stop: NO_REFUSAL,
     }
 }
@@ -88,14 +79,7 @@ fn moved(t: LineState, b: u8, begun: Begun, from: u32) -> LineState
 fn stopped(t: LineState, at: u32, stop: u32) -> LineState
     ensures { result ≡ stopped_of t at stop }
 {
-    let begun = t.begun;
-    LineState {
-        begun,
-        from: t.from,
-        at,
-        lines: t.lines,
-        stop,
-    }
+    LineState { at, stop, ..t }
 }
 
 // One byte.
@@ -126,12 +110,10 @@ fn feed(st: LineState, bytes: &[u8], index: &mut [u32]) -> LineState
     ensures { fed result index.new ≡ fed_of st bytes.now index.old }
 {
     let mut t = st;
-    let mut i: usize = 0;
-    while i < bytes.len() {
-        let next = step(t, bytes[i]);
+    for &b in bytes {
+        let next = step(t, b);
         note(index, t.lines, next.lines, next.at);
         t = next;
-        i += 1;
     }
     t
 }
@@ -147,25 +129,25 @@ pub fn piece(st: LineState, bytes: &[u8], index: &mut [u32]) -> LineState
 }
 
 // The declared end: the index is built, or why not.
-pub fn end(st: LineState, index: &[u32]) -> LinesAnswer
+pub fn end(st: LineState, index: &[u32]) -> Result<usize, LinesError>
     ensures { told_of result ≡ end_of st (length index.now) }
 {
     if st.at < st.lines {
-        return LinesAnswer::Refused(OUT_OF_BOUNDS, 0);
+        return Err(LinesError::OutOfBounds);
     }
     if st.stop == TOO_LONG {
-        return LinesAnswer::Refused(TOO_LONG, LAST_PLACE as usize);
+        return Err(LinesError::TooLong);
     }
     if st.stop == NOT_UTF8 {
-        return LinesAnswer::Refused(NOT_UTF8, st.from as usize);
+        return Err(LinesError::NotUtf8(st.from as usize));
     }
     let begun = st.begun;
     if begun.need != 0 {
-        return LinesAnswer::Refused(NOT_UTF8, st.from as usize);
+        return Err(LinesError::NotUtf8(st.from as usize));
     }
     let n = st.lines as usize + 1;
     if index.len() < n {
-        return LinesAnswer::Refused(LINES_NO_ROOM, n);
+        return Err(LinesError::NoRoom(n));
     }
-    LinesAnswer::Served(n)
+    Ok(n)
 }

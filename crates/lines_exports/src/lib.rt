@@ -12,59 +12,59 @@ ghost use Rattle.lines.specs.Numbers.{answer_number, answer_value, located_numbe
 ghost use Rattle.lines.specs.Words.{contents, open_left, piece_left, end_for};
 
 use exports_values::put_values;
-use lines::{LinesAnswer, Located};
+use lines::{LineColumn, LinesError, LocateError};
 use refusal::SERVED;
 
 // An answer's number.
-fn number(a: LinesAnswer) -> u32
+fn number(a: Result<usize, LinesError>) -> u32
     ensures { result ≡ answer_number (told_of a) }
 {
     match a {
-        LinesAnswer::Served(_) => SERVED,
-        LinesAnswer::Refused(number, _) => number,
+        Ok(_) => SERVED,
+        Err(e) => e.number(),
     }
 }
 
 // What an answer comes with.
-fn value(a: LinesAnswer) -> u64
+fn value(a: Result<usize, LinesError>) -> u64
     ensures { result ≡ answer_value (told_of a) }
 {
     match a {
-        LinesAnswer::Served(n) => n as u64,
-        LinesAnswer::Refused(_, value) => value as u64,
+        Ok(n) => n as u64,
+        Err(e) => e.value() as u64,
     }
 }
 
 // The number of a place's answer, and its two values.
-fn located_number(r: Located) -> u32
+fn located_number(r: Result<LineColumn, LocateError>) -> u32
     ensures { result ≡ located_number (where_of r) }
 {
     match r {
-        Located::At(_, _) => SERVED,
-        Located::Refused(number, _) => number,
+        Ok(_) => SERVED,
+        Err(e) => e.number(),
     }
 }
 
-fn located_first(r: Located) -> u64
+fn located_first(r: Result<LineColumn, LocateError>) -> u64
     ensures { result ≡ located_first (where_of r) }
 {
     match r {
-        Located::At(line, _) => line as u64,
-        Located::Refused(_, place) => place as u64,
+        Ok(found) => found.line as u64,
+        Err(e) => e.value() as u64,
     }
 }
 
-fn located_second(r: Located) -> u64
+fn located_second(r: Result<LineColumn, LocateError>) -> u64
     ensures { result ≡ located_second (where_of r) }
 {
     match r {
-        Located::At(_, column) => column as u64,
-        Located::Refused(_, _) => 0,
+        Ok(found) => found.column as u64,
+        Err(_) => 0,
     }
 }
 
 // An answer told: its value goes to the lent memory, and its number back.
-fn tell(a: LinesAnswer, values: &mut [u64]) -> u32
+fn tell(a: Result<usize, LinesError>, values: &mut [u64]) -> u32
     ensures { (result ≡ answer_number (told_of a)) × (values.new ≡ lay (answer_value (told_of a) ∷ 0 ∷ []) values.old) }
 {
     put_values(values, value(a), 0);

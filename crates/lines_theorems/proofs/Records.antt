@@ -2,6 +2,7 @@
 -- place and its text in the source each start and end between two characters. That is one induction over the items with a law M of the
 -- places between characters (`halves`); what an error's own range is does not matter, as long as M holds at both its ends (Outcomes).
 -- Of error 11 in report mode that is shown apart, from what it points at (`marked`, Failing).
+use Rattle.std.proofs.Common.{Err, Ok, Result}
 use Prim.Native.Nat.{ℕ, zero, suc, ◌+◌, ◌<◌}
 use mathlib.Core.Path.{◌≡◌, refl, sym, ap, subst, ◌∙◌}
 use mathlib.Core.Bool.{Bool, true, false, ◌&&◌}
@@ -20,8 +21,8 @@ use Rattle.chars.specs.Encode.{width, bytes_of}
 use Rattle.chars.specs.Blank.{is_blank}
 use Rattle.items.specs.declared.Outcome.{Outcome}
 use Rattle.items.specs.declared.Outcome.TheVariants.{Token, Str, HereStr, Word, Run, Lined, Keyword, Character, Error, ErrorAt}
-use Rattle.items.specs.declared.CharValue.{CharValue}
-use Rattle.items.specs.declared.CharValue.TheVariants.{Scalar, Wrong, WrongAt}
+use Rattle.items.specs.declared.CharError.{CharError}
+use Rattle.items.specs.declared.CharError.TheVariants.{Wrong, WrongAt}
 use Rattle.items.specs.Kinds as kind
 use Rattle.items.specs.Meaning.{Meaning, meaning_of, character_of, character_means, char_inside}
 use Rattle.items.specs.Readers.{SoFar, Read, past_failing, read_item}
@@ -110,18 +111,18 @@ module _ (M : ℕ → Type 0) (report : Bool) where
           subst M to (past_byte M s i.at i.bytes long starts ends placed tidy (2 + p) l small),
         )
 
-    failing_sets : (n d p : ℕ) → report ≡ true → character_of true name ≡ WrongAt n d p → Fails name (WrongAt n d p)
-        → Sets (character_means (WrongAt n d p)) (failing_at s d p i.bytes)
+    failing_sets : (n d p : ℕ) → report ≡ true → character_of true name ≡ Err (WrongAt n d p) → Fails name (Err (WrongAt n d p))
+        → Sets (character_means (Err (WrongAt n d p))) (failing_at s d p i.bytes)
     failing_sets n d p r e (inl f) = inl (r, (ap (λ (k : ℕ). kind.first_error + k) f, tt))
     failing_sets n d p r e (inr f) =
-        inr (delimiter_ranged d p (delimited_there name d p (e ∙ ap (λ (k : ℕ). WrongAt k d p) f.0)) (f.3 (s + 2 + p)))
+        inr (delimiter_ranged d p (delimited_there name d p (e ∙ ap (λ (k : ℕ). Err (WrongAt k d p)) f.0)) (f.3 (s + 2 + p)))
 
-    character_sets_lem : (v : CharValue) → character_of report name ≡ v → Sets (character_means v) (character_sets report v last s i)
-    character_sets_lem (Scalar c) e = inr set
-    character_sets_lem (Wrong n d) e = inr (starts, ends)
-    character_sets_lem (WrongAt n d p) e =
-        if_is (Sets (character_means (WrongAt n d p))) report
-        (λ r. let f : character_of true name ≡ WrongAt n d p = ap (λ (b : Bool). character_of b name) (sym r) ∙ e in
+    character_sets_lem : (v : Result ℕ CharError) → character_of report name ≡ v → Sets (character_means v) (character_sets report v last s i)
+    character_sets_lem (Ok c) e = inr set
+    character_sets_lem (Err (Wrong n d)) e = inr (starts, ends)
+    character_sets_lem (Err (WrongAt n d p)) e =
+        if_is (Sets (character_means (Err (WrongAt n d p)))) report
+        (λ r. let f : character_of true name ≡ Err (WrongAt n d p) = ap (λ (b : Bool). character_of b name) (sym r) ∙ e in
         failing_sets n d p r f (subst (Fails name) f (character_fails name)))
         (λ r. inr (starts, ends))
 

@@ -1,5 +1,6 @@
 -- An item's text in the source starts and ends between two characters. It is the extent; or it starts after a byte of ASCII, a plus, a
 -- quote or a newline, and ends before one; or it ends where a here-string's delimiter stands, which starts with a character.
+use Rattle.std.proofs.Common.{Ok, Err, Result}
 use Prim.Native.Nat.{ℕ, suc, ◌+◌, ◌-◌, ◌≤◌, ◌<◌}
 use mathlib.Core.Path.{◌≡◌, sym, subst, ◌∙◌}
 use mathlib.Core.Bool.{Bool, true, false, ◌&&◌}
@@ -13,14 +14,13 @@ use borrow.Author.Tests.{eqb-true, ltb-true, ltb-false}
 use Rattle.laws.specs.Quoted.{code}
 use Rattle.laws.specs.Texts.{span, before, begins}
 use Rattle.laws.proofs.Choice.{by_bool, if_all, if_is, and_true, impossible}
-use Rattle.numbers.specs.Grammar.{parse_number}
-use Rattle.numbers.specs.declared.Parsed.{Parsed}
-use Rattle.numbers.specs.declared.Parsed.TheVariants as parsed
+use Rattle.numbers.specs.Grammar.{parse_number, Parsed}
+use Rattle.numbers.specs.declared.ParseError.TheVariants as parsed
 use Rattle.items.specs.declared.Quotes.TheVariants.{Lines}
 use Rattle.items.specs.declared.Outcome.{Outcome}
 use Rattle.items.specs.declared.Outcome.TheVariants.{Token, Str, HereStr, Word, Run, Lined, Keyword, Character, Error, ErrorAt}
-use Rattle.items.specs.declared.CharValue.{CharValue}
-use Rattle.items.specs.declared.CharValue.TheVariants.{Scalar, Wrong, WrongAt}
+use Rattle.items.specs.declared.CharError.{CharError}
+use Rattle.items.specs.declared.CharError.TheVariants.{Wrong, WrongAt}
 use Rattle.items.specs.Kinds as kind
 use Rattle.items.specs.Meaning.{Text, none, source, decoded, Meaning, word_kind, word_means, run_means, escaped, unescape, string_text, lined_text, here_text}
 use Rattle.items.specs.Meaning.{character_of, char_inside, character_means, meaning_of}
@@ -163,14 +163,14 @@ module _ (M : ℕ → Type 0) where
 
     run_texts : (p : Parsed) → Every Meant (run_means p s e raw)
     unfolding run_means
-    run_texts (parsed.Is p) = (tt, tt)
-    run_texts parsed.NoNumber = word_texts
-    run_texts parsed.ZeroDenominator = (tt, tt)
+    run_texts (Ok p) = (tt, tt)
+    run_texts (Err parsed.NoNumber) = word_texts
+    run_texts (Err parsed.ZeroDenominator) = (tt, tt)
 
-    character_texts : (v : CharValue) → Every Meant (character_means v)
-    character_texts (Scalar c) = (tt, tt)
-    character_texts (Wrong n d) = (tt, tt)
-    character_texts (WrongAt n d p) = (tt, tt)
+    character_texts : (v : Result ℕ CharError) → Every Meant (character_means v)
+    character_texts (Ok c) = (tt, tt)
+    character_texts (Err (Wrong n d)) = (tt, tt)
+    character_texts (Err (WrongAt n d p)) = (tt, tt)
 
     -- only a word may start past ASCII
     low_first : (o : Outcome) → (o ≡ Word → ⊥) → (get_or raw 0 0 < 0x80) ⊎ (o ≡ Word) → get_or raw 0 0 < 0x80

@@ -1,16 +1,15 @@
 -- What is wrong with a character has one of 01's error numbers.
+use Rattle.std.proofs.Common.{Ok, Err, Result}
 use Rattle.laws.proofs.Choice.{if_all}
 use Rattle.chars.specs.Utf8.{Front, front}
 use Rattle.chars.specs.Utf8 as utf8
 use Rattle.chars.specs.Encode.{is_scalar}
-use Rattle.digits.specs.Hex.{hex_value}
-use Rattle.digits.specs.declared.Hex.{Hex}
-use Rattle.digits.specs.declared.Hex.TheVariants as hex
+use Rattle.digits.specs.Hex.{hex_value, Hex}
 use Rattle.items.specs.Readers.{first_is, last_is, scalar_of}
 use Rattle.items.specs.Meaning.{lookup, char_names, lower, unnamed, before_delimiter, nameless, only_one, later, hex_named, spelled_out, character_of, char_inside}
 use Rattle.items.proofs.Failing.{Named, character_inside}
-use Rattle.items.specs.declared.CharValue.{CharValue}
-use Rattle.items.specs.declared.CharValue.TheVariants.{Scalar, Wrong, WrongAt}
+use Rattle.items.specs.declared.CharError.{CharError}
+use Rattle.items.specs.declared.CharError.TheVariants.{Wrong, WrongAt}
 use Rattle.meaning.specs.Meant.{last_error}
 use Rattle.laws.specs.Quoted.{code}
 use Prim.Native.Nat.{ℕ, suc, ◌+◌, ◌≤◌, ◌-◌}
@@ -21,15 +20,15 @@ use lib.ListN.{length, get_or, take, drop, length-drop}
 use lib.Dec.{eqb, ltb}
 use native.Mathlib.Omega.{arith}
 
-abbrev Numbered : CharValue → Type 0
-Numbered (Scalar c) = Unit
-Numbered (Wrong e d) = e ≤ last_error
-Numbered (WrongAt e d p) = e ≤ last_error
+abbrev Numbered : Result ℕ CharError → Type 0
+Numbered (Ok c) = Unit
+Numbered (Err (Wrong e d)) = e ≤ last_error
+Numbered (Err (WrongAt e d p)) = e ≤ last_error
 
 scalar_numbered : (h : Hex) → Numbered (scalar_of h)
 unfolding scalar_of
-scalar_numbered (hex.Value v) = if_all Numbered (is_scalar v) tt (omega arith)
-scalar_numbered (hex.Wrong d p) = omega arith
+scalar_numbered (Ok v) = if_all Numbered (is_scalar v) tt (omega arith)
+scalar_numbered (Err w) = omega arith
 
 nameless_numbered : (report : Bool) (t : List ℕ) → Numbered (nameless report t)
 unfolding nameless
@@ -41,10 +40,10 @@ one_numbered report (utf8.bad n) t = nameless_numbered report t
 one_numbered report utf8.cut t = nameless_numbered report t
 one_numbered report utf8.none t = nameless_numbered report t
 
-later_numbered : (n : ℕ) (v : CharValue) → Numbered v → Numbered (later n v)
-later_numbered n (Scalar c) h = h
-later_numbered n (Wrong e d) h = h
-later_numbered n (WrongAt e d p) h = h
+later_numbered : (n : ℕ) (v : Result ℕ CharError) → Numbered v → Numbered (later n v)
+later_numbered n (Ok c) h = h
+later_numbered n (Err (Wrong e d)) h = h
+later_numbered n (Err (WrongAt e d p)) h = h
 
 hex_numbered : (t : List ℕ) → Numbered (hex_named t)
 unfolding hex_named
@@ -64,15 +63,15 @@ unfolding character_of
 numbered report t = if_all Numbered (eqb (lookup char_names (map lower t) unnamed) unnamed) (spelled_numbered report t) tt
 
 -- a failing place is one of the extent's
-pub failing_within : (report : Bool) (raw : List ℕ) {e d p : ℕ} → character_of report (char_inside raw) ≡ WrongAt e d p → 2 + p ≤ length raw
+pub failing_within : (report : Bool) (raw : List ℕ) {e d p : ℕ} → character_of report (char_inside raw) ≡ Err (WrongAt e d p) → 2 + p ≤ length raw
 failing_within report raw {e} {d} {p} h =
     let t : List ℕ = char_inside raw in
-    let w : Named (length t) (WrongAt e d p) = subst (Named (length t)) h (character_inside report t) in
+    let w : Named (length t) (Err (WrongAt e d p)) = subst (Named (length t)) h (character_inside report t) in
     omega (arith, w.0, w.1, length-drop 2 raw)
 
 module _ (report : Bool) (t : List ℕ) {e d : ℕ} where
-  pub wrong_numbered : character_of report t ≡ Wrong e d → e ≤ last_error
+  pub wrong_numbered : character_of report t ≡ Err (Wrong e d) → e ≤ last_error
   wrong_numbered h = subst Numbered h (numbered report t)
 
-  pub failing_numbered : {p : ℕ} → character_of report t ≡ WrongAt e d p → e ≤ last_error
+  pub failing_numbered : {p : ℕ} → character_of report t ≡ Err (WrongAt e d p) → e ≤ last_error
   failing_numbered h = subst Numbered h (numbered report t)

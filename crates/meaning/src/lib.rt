@@ -13,7 +13,7 @@ ghost use Rattle.meaning.specs.Meant.{only, pair, meant, sized_all, error_of, la
 
 use items::Outcome;
 use items::kinds::NO_DETAIL;
-use numbers::{Parsed, is_plain, parse_number};
+use numbers::{ParseError, is_plain, parse_number};
 use spellings::words::word_kind;
 
 pub mod places;
@@ -23,7 +23,7 @@ pub mod records;
 use items::kinds::{
     CHARACTER_LITERAL, FIRST_ERROR, IDENTIFIER, KEYWORD, NUMBER, STRING_LITERAL, ZERO_DENOMINATOR,
 };
-use items::{CHARACTER_MARK, CharValue};
+use items::{CHARACTER_MARK, CharError};
 use quoted::{here_text, lined_text, string_text};
 use spellings::characters::character;
 use spellings::failing::rest;
@@ -126,9 +126,13 @@ fn run(start: usize, end: usize, raw: &[u8]) -> Meant
         return one(NUMBER, NO_DETAIL, Text::Nowhere);
     }
     match parse_number(raw) {
-        Parsed::Is(_parts) => one(NUMBER, NO_DETAIL, Text::Nowhere),
-        Parsed::NoNumber => word(start, end, raw),
-        Parsed::ZeroDenominator => one(FIRST_ERROR + ZERO_DENOMINATOR, NO_DETAIL, Text::Nowhere),
+        Ok(_) => one(NUMBER, NO_DETAIL, Text::Nowhere),
+        Err(ParseError::NoNumber) => word(start, end, raw),
+        Err(ParseError::ZeroDenominator) => one(
+            FIRST_ERROR + ZERO_DENOMINATOR,
+            NO_DETAIL,
+            Text::Nowhere,
+        ),
     }
 }
 
@@ -137,9 +141,13 @@ fn character_item(report: bool, raw: &[u8]) -> Meant
     ensures { meant result ≡ sized_all (character_means (character_of report (char_inside raw.now))) }
 {
     match character(report, rest(raw, CHARACTER_MARK)) {
-        CharValue::Scalar(c) => one(CHARACTER_LITERAL, c, Text::Nowhere),
-        CharValue::Wrong(error, detail) => one(FIRST_ERROR + error, detail, Text::Nowhere),
-        CharValue::WrongAt(error, detail, _at) => one(FIRST_ERROR + error, detail, Text::Nowhere),
+        Ok(c) => one(CHARACTER_LITERAL, c, Text::Nowhere),
+        Err(CharError::Wrong(error, detail)) => one(FIRST_ERROR + error, detail, Text::Nowhere),
+        Err(CharError::WrongAt(error, detail, _)) => one(
+            FIRST_ERROR + error,
+            detail,
+            Text::Nowhere,
+        ),
     }
 }
 

@@ -8,7 +8,7 @@ ghost use Rattle.meaning.specs.Places.{place_in, range_of, reach, reach_from};
 
 use crate::Range;
 use items::kinds::FIRST_ERROR;
-use items::{CHARACTER_MARK, CharValue, Outcome};
+use items::{CHARACTER_MARK, CharError, Outcome};
 use spellings::characters::character;
 use spellings::failing::{past_failing, rest};
 
@@ -54,9 +54,9 @@ fn after_character(report: bool, last: Range, extent: Range, raw: &[u8]) -> Rang
     ensures { result ≡ range_of (character_sets report (character_of report (char_inside raw.now)) (place_in last) extent.from (so_far raw.now extent.to)) }
 {
     match character(report, rest(raw, CHARACTER_MARK)) {
-        CharValue::Scalar(_c) => last,
-        CharValue::Wrong(_error, _detail) => extent,
-        CharValue::WrongAt(_error, detail, at) => {
+        Ok(_) => last,
+        Err(CharError::Wrong(_, _)) => extent,
+        Err(CharError::WrongAt(_, detail, at)) => {
             if report {
                 return failing_at(extent.from, detail, at, raw);
             }
@@ -71,19 +71,14 @@ pub fn range_after(report: bool, last: Range, what: Outcome, extent: Range, raw:
     ensures { result ≡ range_of (range_after report (place_in last) extent.from what (so_far raw.now extent.to)) }
 {
     match what {
-        Outcome::Token(_kind, _detail) => last,
-        Outcome::Str => last,
-        Outcome::HereStr => last,
-        Outcome::Word => last,
-        Outcome::Run => last,
-        Outcome::Lined => last,
-        Outcome::Keyword => last,
         Outcome::Character => after_character(report, last, extent, raw),
-        Outcome::Error(_error, _detail) => last,
-        Outcome::ErrorAt(_error, _detail, from, to) => Range {
+        Outcome::ErrorAt(_, _, from, to) => Range {
             from: from as u32,
             to: to as u32,
         },
+        Outcome::Str | Outcome::HereStr | Outcome::Word | Outcome::Run => last,
+        Outcome::Lined | Outcome::Keyword => last,
+        Outcome::Token(_, _) | Outcome::Error(_, _) => last,
     }
 }
 

@@ -1,4 +1,5 @@
 -- What is found bears the name; each return of the calls is a case of the definition.
+use Rattle.std.proofs.Common.{None, Option, Some}
 use Prim.Native.Nat.{ℕ, zero, suc, ◌+◌, ◌-◌, ◌*◌, ◌%◌, ◌≤◌, ◌<◌}
 use native.Mathlib.Omega.{arith}
 use borrow.Author.Tests.{lt-ltb, le-ltb, le-leb, lt-leb, eqb-true, eqb-false}
@@ -15,8 +16,6 @@ use Rattle.names.specs.Call.{numbered, free_of, Outcome, outcome, new_of, enter_
 use Rattle.names.specs.Answers.{Number, Refused}
 use Rattle.names.specs.declared.Proposal.{Proposal}
 use Rattle.names.specs.declared.Proposal.TheVariants.{Entry, Free, Full}
-use Rattle.names.specs.declared.NameFound.{NameFound}
-use Rattle.names.specs.declared.NameFound.TheVariants.{At, Nothing}
 use Rattle.names.proofs.Laws.{next_small, bears_in, probe_free, probe_hit, probe_miss, probe_end, probe_in}
 
 -- a number is that of an entry that bears the name
@@ -32,54 +31,54 @@ by_proposal (Entry k) f g h = f k refl
 by_proposal (Free s) f g h = g s refl
 by_proposal Full f g h = h refl
 
-pub by_found : {P : Type 0} (x : NameFound) → ((n : ℕ) → x ≡ At n → P) → (x ≡ Nothing → P) → P
-by_found (At n) f g = f n refl
-by_found Nothing f g = g refl
+pub by_found : {P : Type 0} (x : Option ℕ) → ((n : ℕ) → x ≡ Some n → P) → (x ≡ None → P) → P
+by_found (Some n) f g = f n refl
+by_found None f g = g refl
 
-or_in : {P : Type 0} (f g : NameFound) {n : ℕ} → (f ≡ At n → P) → (g ≡ At n → P) → or_else f g ≡ At n → P
-or_in (At m) g F G e = F e
-or_in Nothing g F G e = G e
+or_in : {P : Type 0} (f g : Option ℕ) {n : ℕ} → (f ≡ Some n → P) → (g ≡ Some n → P) → or_else f g ≡ Some n → P
+or_in (Some m) g F G e = F e
+or_in None g F G e = G e
 
-pub or_none : (f g : NameFound) → or_else f g ≡ Nothing → (f ≡ Nothing) × (g ≡ Nothing)
-or_none (At m) g e = impossible cc
-or_none Nothing g e = (refl, e)
+pub or_none : (f g : Option ℕ) → or_else f g ≡ None → (f ≡ None) × (g ≡ None)
+or_none (Some m) g e = impossible cc
+or_none None g e = (refl, e)
 
 module _ (w b : List ℕ) (name : List ℕ) where
-  pub scan_in : (p m k : ℕ) {n : ℕ} → p < 2 → scan m w b p name k ≡ At n → Bearing w b name n
+  pub scan_in : (p m k : ℕ) {n : ℕ} → p < 2 → scan m w b p name k ≡ Some n → Bearing w b name n
   unfolding scan
   scan_in p zero k h e = impossible cc
   scan_in p (suc m) k {n} h e =
       by_bool (bears w b p name k)
-      (λ t. let g : At (p * half_names + k) ≡ At n = if_yes _ _ _ t refl ∙ e in
+      (λ t. let g : Some (p * half_names + k) ≡ Some n = if_yes _ _ _ t refl ∙ e in
       let x : n ≡ p * half_names + k = cc in
       record { party = p; place = k; there = h; borne = t; number = x })
       (λ t. scan_in p m (k + 1) h (if_no _ _ _ t refl ∙ e))
 
-  pub scan_none : (p m k : ℕ) → scan m w b p name k ≡ Nothing → (j : ℕ) → k ≤ j → j < k + m → bears w b p name j ≡ false
+  pub scan_none : (p m k : ℕ) → scan m w b p name k ≡ None → (j : ℕ) → k ≤ j → j < k + m → bears w b p name j ≡ false
   unfolding scan
   scan_none p zero k e j h i = absurd (omega arith)
   scan_none p (suc m) k e j h i =
       by_bool (bears w b p name k)
-      (λ t. let g : At (p * half_names + k) ≡ Nothing = if_yes _ _ _ t refl ∙ e in impossible cc)
+      (λ t. let g : Some (p * half_names + k) ≡ None = if_yes _ _ _ t refl ∙ e in impossible cc)
       (λ t. by_bool (eqb k j)
       (λ q. rw (← eqb-true k j q) t)
       (λ q. let d = eqb-false k j q in scan_none p m (k + 1) (if_no _ _ _ t refl ∙ e) j (omega (arith, d)) (omega arith)))
 
-  lookup_in : (p : ℕ) {n : ℕ} → p < 2 → lookup_of w b p name ≡ At n → Bearing w b name n
+  lookup_in : (p : ℕ) {n : ℕ} → p < 2 → lookup_of w b p name ≡ Some n → Bearing w b name n
   unfolding lookup_of
   lookup_in p {n} h e =
       by_proposal (probe_of w b p name)
-      (λ k f. let g : At (p * half_names + k) ≡ At n = sym (ap (λ (x : Proposal). numbered p x (scanned w b p name)) f) ∙ e in
+      (λ k f. let g : Some (p * half_names + k) ≡ Some n = sym (ap (λ (x : Proposal). numbered p x (scanned w b p name)) f) ∙ e in
       let x : n ≡ p * half_names + k = cc in
       record { party = p; place = k; there = h; borne = probe_in w b p name looks (slot_of name) f; number = x })
-      (λ s f. let g : Nothing ≡ At n = sym (ap (λ (x : Proposal). numbered p x (scanned w b p name)) f) ∙ e in impossible cc)
+      (λ s f. let g : None ≡ Some n = sym (ap (λ (x : Proposal). numbered p x (scanned w b p name)) f) ∙ e in impossible cc)
       (λ f. scan_in p (count w p) 0 h (sym (ap (λ (x : Proposal). numbered p x (scanned w b p name)) f) ∙ e))
 
-  pub find_in : (p : ℕ) {n : ℕ} → p < 2 → find_of w b p name ≡ At n → Bearing w b name n
+  pub find_in : (p : ℕ) {n : ℕ} → p < 2 → find_of w b p name ≡ Some n → Bearing w b name n
   unfolding find_of
   find_in p h e = or_in _ _ (lookup_in p h) (lookup_in (1 - p) (omega arith)) e
 
-  pub find_none : (p : ℕ) → find_of w b p name ≡ Nothing → (lookup_of w b p name ≡ Nothing) × (lookup_of w b (1 - p) name ≡ Nothing)
+  pub find_none : (p : ℕ) → find_of w b p name ≡ None → (lookup_of w b p name ≡ None) × (lookup_of w b (1 - p) name ≡ None)
   unfolding find_of
   find_none p e = or_none (lookup_of w b p name) (lookup_of w b (1 - p) name) e
 
@@ -98,23 +97,23 @@ module _ (w b : List ℕ) (name : List ℕ) where
       rw (← probe_miss w b p name (suc n) s refl (omega arith) (eqb-false _ _ t) g, f) (free_small p n ((s + 1) % index_slots) (next_small s))))
 
 module _ (w b : List ℕ) (p : ℕ) (name : List ℕ) where
-  pub lookup_entry : (k : ℕ) → probe_of w b p name ≡ Entry k → At (p * half_names + k) ≡ lookup_of w b p name
+  pub lookup_entry : (k : ℕ) → probe_of w b p name ≡ Entry k → Some (p * half_names + k) ≡ lookup_of w b p name
   unfolding lookup_of
   lookup_entry k e = rw e
 
-  pub lookup_free : (s : ℕ) → probe_of w b p name ≡ Free s → Nothing ≡ lookup_of w b p name
+  pub lookup_free : (s : ℕ) → probe_of w b p name ≡ Free s → None ≡ lookup_of w b p name
   unfolding lookup_of
   lookup_free s e = rw e
 
-  pub lookup_full : {x : NameFound} → probe_of w b p name ≡ Full → x ≡ scanned w b p name → x ≡ lookup_of w b p name
+  pub lookup_full : {x : Option ℕ} → probe_of w b p name ≡ Full → x ≡ scanned w b p name → x ≡ lookup_of w b p name
   unfolding lookup_of
   lookup_full e f = rw e f
 
-  pub find_own : {x : NameFound} {n : ℕ} → x ≡ At n → x ≡ lookup_of w b p name → x ≡ find_of w b p name
+  pub find_own : {x : Option ℕ} {n : ℕ} → x ≡ Some n → x ≡ lookup_of w b p name → x ≡ find_of w b p name
   unfolding find_of
   find_own e f = rw (← f, e)
 
-  pub find_other : {x : NameFound} → lookup_of w b p name ≡ Nothing → x ≡ lookup_of w b (1 - p) name → x ≡ find_of w b p name
+  pub find_other : {x : Option ℕ} → lookup_of w b p name ≡ None → x ≡ lookup_of w b (1 - p) name → x ≡ find_of w b p name
   unfolding find_of
   find_other e f = rw e f
 
@@ -144,11 +143,11 @@ module _ (w b : List ℕ) (p : ℕ) (name : List ℕ) where
   unfolding enter_of
   enter_party h g = if_yes _ _ _ h (if_no _ _ _ (le-ltb _ _ g) refl)
 
-  pub enter_there : {n : ℕ} → is_in_bounds w b ≡ true → p < 2 → find_of w b p name ≡ At n → outcome (Number n) w b ≡ enter_of w b p name
+  pub enter_there : {n : ℕ} → is_in_bounds w b ≡ true → p < 2 → find_of w b p name ≡ Some n → outcome (Number n) w b ≡ enter_of w b p name
   unfolding enter_of
   enter_there h g e = if_yes _ _ _ h (if_yes _ _ _ (lt-ltb _ _ g) (rw e))
 
-  pub enter_new : {o : Outcome} → is_in_bounds w b ≡ true → p < 2 → find_of w b p name ≡ Nothing → o ≡ new_of w b p name → o ≡ enter_of w b p name
+  pub enter_new : {o : Outcome} → is_in_bounds w b ≡ true → p < 2 → find_of w b p name ≡ None → o ≡ new_of w b p name → o ≡ enter_of w b p name
   unfolding enter_of
   enter_new h g e f = if_yes _ _ _ h (if_yes _ _ _ (lt-ltb _ _ g) (rw e f))
 

@@ -1,5 +1,6 @@
 -- Isolation: its own half being given, the answer to a party depends on the other's half only where the party asks for a name that it has
 -- not entered itself, and there only on the number that this name has among the other's.
+use Rattle.std.proofs.Common.{None, Option, Some}
 use Prim.Native.Nat.{ℕ, zero, suc, ◌+◌, ◌-◌, ◌*◌, ◌/◌, ◌≤◌, ◌<◌}
 use native.Mathlib.Omega.{arith}
 use borrow.Author.Tests.{lt-ltb, le-leb, lt-leb, ltb-true, ltb-false, eqb-true, eqb-false}
@@ -18,8 +19,6 @@ use Rattle.names.specs.Call.{open_mark, open_words, enter_of, mark_of, name_of}
 use Rattle.names.specs.Book.{Name, Book, book, half, place, size, number_in, added, Reply, reply, ask, mark_in, name_in, Call, names_of, book_of}
 use Rattle.names.specs.Isolation.{present, seen, room, new_answer, told_or, answer_of, own_after, answers_to, answers_in, calls_of, strangers}
 use Rattle.names.specs.Answers.{Told, Number, Refused}
-use Rattle.names.specs.declared.NameFound.{NameFound}
-use Rattle.names.specs.declared.NameFound.TheVariants.{At, Nothing}
 use Rattle.names.proofs.Parts.{same_refl}
 use Rattle.names.proofs.Laws.{party_of, halves}
 use Rattle.names.proofs.Sound.{Sound}
@@ -44,7 +43,7 @@ apart_planner b a n h =
 
 module _ (b : Book) (a : Apart b) (n : Name) where
   -- a name that is one of the own, one of the other's, or neither
-  own_number : (p : ℕ) → p < 2 → present (half b p) n ≡ true → number_in b n ≡ At (p * half_names + place n (half b p))
+  own_number : (p : ℕ) → p < 2 → present (half b p) n ≡ true → number_in b n ≡ Some (p * half_names + place n (half b p))
   own_number zero two t = number_planner b n (record { less = ltb-true (place n b.planner) (length b.planner) t; number = omega arith })
   own_number (suc zero) two t =
       let h = ltb-true (place n b.contractor) (length b.contractor) t in
@@ -52,7 +51,7 @@ module _ (b : Book) (a : Apart b) (n : Name) where
   own_number (suc (suc p)) two t = absurd (omega arith)
 
   other_number : (p : ℕ) → p < 2 → present (half b p) n ≡ false → present (half b (1 - p)) n ≡ true
-      → number_in b n ≡ At ((1 - p) * half_names + place n (half b (1 - p)))
+      → number_in b n ≡ Some ((1 - p) * half_names + place n (half b (1 - p)))
   other_number zero two t u =
       number_contractor b n (record {
         none = absent_is b.planner n t;
@@ -63,7 +62,7 @@ module _ (b : Book) (a : Apart b) (n : Name) where
       number_planner b n (record { less = ltb-true (place n b.planner) (length b.planner) u; number = omega arith })
   other_number (suc (suc p)) two t u = absurd (omega arith)
 
-  none_number : (p : ℕ) → p < 2 → present (half b p) n ≡ false → present (half b (1 - p)) n ≡ false → number_in b n ≡ Nothing
+  none_number : (p : ℕ) → p < 2 → present (half b p) n ≡ false → present (half b (1 - p)) n ≡ false → number_in b n ≡ None
   none_number zero two t u = number_none b n (absent_is b.planner n t) (absent_is b.contractor n u)
   none_number (suc zero) two t u = number_none b n (absent_is b.planner n u) (absent_is b.contractor n t)
   none_number (suc (suc p)) two t u = absurd (omega arith)
@@ -94,14 +93,14 @@ module _ (b : Book) (p : ℕ) (n : Name) (two : p < 2) where
       → HasView b p n (reply (Number ((1 - p) * half_names + place n (half b (1 - p)))) b)
   view_other t u =
       record {
-        answers = if_no _ _ _ t (ap (λ (f : NameFound). told_or f (new_answer p (half b p) n)) (if_yes _ _ _ u refl));
+        answers = if_no _ _ _ t (ap (λ (f : Option ℕ). told_or f (new_answer p (half b p) n)) (if_yes _ _ _ u refl));
         keeps = if_no _ _ _ t (if_yes _ _ _ u refl);
         leaves = refl;
       }
 
   module _ (t : present (half b p) n ≡ false) (u : present (half b (1 - p)) n ≡ false) where
     new_answer_lem : {a : Told} → a ≡ new_answer p (half b p) n → a ≡ answer_of p (half b p) (seen (1 - p) (half b (1 - p)) n) n
-    new_answer_lem e = if_no _ _ _ t (e ∙ ap (λ (f : NameFound). told_or f (new_answer p (half b p) n)) (if_no _ _ _ u refl))
+    new_answer_lem e = if_no _ _ _ t (e ∙ ap (λ (f : Option ℕ). told_or f (new_answer p (half b p) n)) (if_no _ _ _ u refl))
 
     view_new : room (half b p) n ≡ true → HasView b p n (reply (Number (p * half_names + length (half b p))) (added b p n))
     view_new r =
@@ -193,14 +192,14 @@ name_isolated w b v c s t k e =
 
 -- ---- many calls: to a party that never asks for a name of the other's the table is its own
 
-none_parts : (b : Book) (n : Name) → number_in b n ≡ Nothing → (place n b.planner ≡ length b.planner) × (place n b.contractor ≡ length b.contractor)
+none_parts : (b : Book) (n : Name) → number_in b n ≡ None → (place n b.planner ≡ length b.planner) × (place n b.contractor ≡ length b.contractor)
 none_parts b n e =
     where_is b n
     (λ k r. absurd (at_none (sym (number_planner b n r) ∙ e)))
     (λ k r. absurd (at_none (sym (number_contractor b n r) ∙ e)))
     (λ u v. (u, v))
 
-added_apart : (b : Book) → Apart b → (p : ℕ) (n : Name) → number_in b n ≡ Nothing → Apart (added b p n)
+added_apart : (b : Book) → Apart b → (p : ℕ) (n : Name) → number_in b n ≡ None → Apart (added b p n)
 added_apart b a zero n e m h =
     by_bool (present b.planner m)
     (λ t. a m (ltb-true (place m b.planner) (length b.planner) t))
@@ -227,7 +226,7 @@ no_names : (l : List Name) (n : Name) → l ≡ [] → present l n ≡ false
 unfolding place
 no_names l n e = rw e
 
-answer_alone : (p : ℕ) (own : List Name) (other : NameFound) (n : Name) → other ≡ Nothing → answer_of p own other n ≡ answer_of p own Nothing n
+answer_alone : (p : ℕ) (own : List Name) (other : Option ℕ) (n : Name) → other ≡ None → answer_of p own other n ≡ answer_of p own None n
 answer_alone p own other n e = rw e
 
 module _ (p : ℕ) (two : p < 2) where
@@ -237,7 +236,7 @@ module _ (p : ℕ) (two : p < 2) where
   alike x y ax ay n e t u =
       let v = ask-view x ax p n two in
       let r = ask-view y ay p n two in (
-        v.answers ∙ answer_alone p (half x p) _ n (sym (if_no _ _ _ t refl)) ∙ ap (λ (l : List Name). answer_of p l Nothing n) e
+        v.answers ∙ answer_alone p (half x p) _ n (sym (if_no _ _ _ t refl)) ∙ ap (λ (l : List Name). answer_of p l None n) e
             ∙ sym (r.answers ∙ answer_alone p (half y p) _ n (sym (if_no _ _ _ u refl))),
         v.keeps ∙ rw (t, u, e) refl ∙ sym r.keeps,
       )

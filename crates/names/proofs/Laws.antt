@@ -1,20 +1,25 @@
 -- Laws of one turn of each loop, and of the tests.
+use Rattle.std.proofs.Common.{Result, Ok, Err}
+use Rattle.std.specs.Result.{is_err}
+use Rattle.refusal.specs.Refusals.{served}
+use Rattle.names.specs.Answers.{error_number, mark_in}
+use Rattle.names.specs.declared.NameError.{NameError}
+use Rattle.names.specs.declared.NameError.TheVariants as error
 use Prim.Native.Nat.{ℕ, zero, suc, ◌+◌, ◌-◌, ◌*◌, ◌/◌, ◌%◌, ◌≤◌, ◌<◌}
 use native.Mathlib.Omega.{arith}
-use native.Mathlib.Numerals.{add-one}
 use native.Mathlib.Nat.{mod-lt, div-lt_iff_lt-mul}
 use borrow.Author.Tests.{eq-eqb, ne_eqb, lt-ltb, le-ltb, le-leb, lt-leb, ltb-true, ltb-false, leb-true, leb-false, eqb-true, eqb-false}
 use mathlib.Core.Path.{◌≡◌, refl, sym, ap, ◌∙◌}
-use mathlib.Core.Bool.{Bool, true, false}
-use mathlib.Core.List.{List, [], ◌∷◌, append_assoc}
+use mathlib.Core.Bool.{Bool, true, false, true≢false}
+use mathlib.Core.List.{List, [], ◌∷◌, ◌++◌}
 use lib.Dec.{eqb, ltb, leb}
-use lib.ListN.{length, get_or, drop, take, set, replicate, length-replicate, length-append, length-drop, replicate-append-replicate}
-use lib.Seq.{drop-cons, paste, take-length, set_at, length-take-le}
+use lib.ListN.{length, get_or, drop, take, set, replicate, length-replicate, length-append, length-drop}
+use lib.Seq.{paste, take-length, length-take-le}
 use Rattle.laws.specs.Texts.{same}
 use Rattle.laws.specs.Lent.{written}
 use Rattle.laws.proofs.Places.{past, here}
 use Rattle.laws.proofs.Choice.{if_yes, if_no, by_bool, impossible}
-use Rattle.std.specs.Prelude.{if◌then◌else◌}
+use Rattle.std.specs.Prelude.{if◌then◌else◌, None, Some}
 use Rattle.refusal.specs.Refusals.{out_of_bounds, no_name}
 use Rattle.names.specs.Layout.{count, bound, used, slot, name_at, bears, half_bounds, is_in_bounds, half_names, half_bytes, first_bound}
 use Rattle.names.specs.Layout.{first_slot, index_slots, half_words, table_names, table_bytes, table_words, nowhere, placed, cut, place_at, Readable}
@@ -22,7 +27,6 @@ use Rattle.names.specs.Call.{factor, hashes, hashes_aSlot, turn, four, rest, mix
 use Rattle.names.specs.Call.{probe, scan, scanned, laid, new_words, mark_of, name_of, open_of, opening, place_of}
 use Rattle.names.specs.declared.Place.{Place}
 use Rattle.names.specs.declared.Proposal.TheVariants.{Entry, Free, Full}
-use Rattle.names.specs.declared.NameFound.TheVariants.{At, Nothing}
 
 -- the hash
 pub rest_more : (h : ℕ) (s : List ℕ) (i : ℕ) → i < length s → rest h (drop i s) ≡ rest (turn h (get_or s i 0)) (drop (i + 1) s)
@@ -94,14 +98,8 @@ cleared n w = written (replicate n 0) w
 pub length-cleared : (n : ℕ) (w : List ℕ) → n ≤ length w → length (cleared n w) ≡ length w
 length-cleared n w h = simp (length-append, length-drop, length-replicate) (omega arith)
 
-pub cleared_more : (n : ℕ) (w : List ℕ) → n < length w → set (cleared n w) n 0 ≡ cleared (n + 1) w
-cleared_more n w h =
-    rw (length-replicate n, length-replicate (n + 1), drop-cons w n 0 h)
-    (set_at (replicate n 0) (get_or w n 0) (drop (suc n) w) 0 n (length-replicate n 0)
-    ∙ rw (← replicate-append-replicate {A = ℕ} n 1 0, append_assoc, add-one))
-
-pub cleared_all : (n : ℕ) (w : List ℕ) → n ≡ table_words → cleared n w ≡ cleared table_words w
-cleared_all n w e = rw e
+pub cleared_front : (n : ℕ) (w : List ℕ) {front : List ℕ} → n ≤ length w → front ≡ replicate (length (take n w)) 0 → front ++ drop n w ≡ cleared n w
+cleared_front n w h e = rw (e, length-take-le n w h, length-replicate n)
 
 -- the words with one name more
 pub put_words : (w : List ℕ) (p s t len : ℕ) {n from : ℕ} → n ≡ count w p → from ≡ used w p
@@ -217,7 +215,7 @@ module _ (w b : List ℕ) (p : ℕ) (name : List ℕ) where
       let x : entry_in (slot w p s) ≡ k = cc in rw (← x) (proposes_is (slot w p s) g).1)
       (λ g. probe_in n ((s + 1) % index_slots) (let f : suc n - 1 ≡ n = omega arith in (rw f at (probe_miss (suc n) s refl (omega arith) (eqb-false _ _ h) g)) ∙ e)))
 
-  pub scan_hit : (n k : ℕ) → k < n → bears w b p name k ≡ true → At (p * half_names + k) ≡ scan (n - k) w b p name k
+  pub scan_hit : (n k : ℕ) → k < n → bears w b p name k ≡ true → Some (p * half_names + k) ≡ scan (n - k) w b p name k
   unfolding scan
   scan_hit n k h g = let e : n - k ≡ suc (n - (k + 1)) = omega arith in rw e (if_yes _ _ _ g refl)
 
@@ -225,7 +223,7 @@ module _ (w b : List ℕ) (p : ℕ) (name : List ℕ) where
   unfolding scan
   scan_miss n k h g = let e : n - k ≡ suc (n - (k + 1)) = omega arith in rw e (if_no _ _ _ g refl)
 
-  pub scan_end : (n k : ℕ) → n ≤ k → Nothing ≡ scan (n - k) w b p name k
+  pub scan_end : (n k : ℕ) → n ≤ k → None ≡ scan (n - k) w b p name k
   unfolding scan
   scan_end n k h = let e : n - k ≡ 0 = omega arith in rw e
 
@@ -338,3 +336,20 @@ module _ (w b : List ℕ) where
   pub open_all : {v : List ℕ} → table_words ≤ length w → table_bytes ≤ length b → v ≡ cleared table_words w → opening 0 v ≡ open_of w b
   unfolding open_of
   open_all h g e = if_yes _ _ _ (le-leb _ _ h) (if_yes _ _ _ (le-leb _ _ g) (rw e))
+
+-- ---- what an answer means
+
+refused_number : (e : NameError) → error_number e ≡ served → ⊥
+refused_number error.OutOfBounds h = omega (arith, h)
+refused_number error.NoParty h = omega (arith, h)
+refused_number error.NoRoom h = omega (arith, h)
+refused_number error.NoName h = omega (arith, h)
+
+-- a refusal's mark is not `served`, and any other answer's is
+pub refused_mark : {T : Type 0} (r : Result T NameError) → is_err r ≡ true → mark_in r ≡ served → ⊥
+refused_mark (Ok x) e h = absurd (true≢false (sym e))
+refused_mark (Err x) e h = refused_number x h
+
+pub served_mark : {T : Type 0} (r : Result T NameError) → is_err r ≡ false → mark_in r ≡ served
+served_mark (Ok x) e = refl
+served_mark (Err x) e = absurd (true≢false e)

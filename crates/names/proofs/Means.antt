@@ -1,4 +1,5 @@
 -- A call on lent memory that is sound is the call on what the memory means.
+use Rattle.std.proofs.Common.{None, Some}
 use Prim.Native.Nat.{ℕ, zero, suc, ◌+◌, ◌-◌, ◌*◌, ◌≤◌, ◌<◌}
 use native.Mathlib.Omega.{arith}
 use native.Mathlib.Numerals.{add-one}
@@ -15,13 +16,12 @@ use Rattle.laws.proofs.Compared.{same_is}
 use Rattle.names.specs.Layout.{count, bound, used, name_at, bears, half_names, half_bytes, index_slots, table_words}
 use Rattle.names.specs.Call.{lookup_of, find_of, probe_of, slot_of, tag_of, free_of, new_words, laid, Outcome, new_of, enter_of, looks}
 use Rattle.names.specs.Book.{Name, half, place, size, number_in, added, Reply, new_in, ask, first_names, names_of, book_of}
-use Rattle.names.specs.declared.NameFound.TheVariants.{At, Nothing}
 use Rattle.names.proofs.Laws.{slot_small, bears_in, bears-same, bounds, halves}
 use Rattle.names.proofs.Gives.{by_found, by_proposal, lookup_entry, lookup_full, find_in, find_none, scan_none, free_small, enter_there, enter_new, enter_party}
 use Rattle.names.proofs.Parts.{same_refl, new_count, other_count}
 use Rattle.names.proofs.Sound.{Sound, below_all, name_is, entry_old, entry_new, sound_after}
 
-at_nothing : {k : ℕ} → At k ≡ Nothing → ⊥
+at_nothing : {k : ℕ} → Some k ≡ None → ⊥
 at_nothing e = impossible cc
 
 -- the place of a name in a list
@@ -127,7 +127,7 @@ module _ (w b : List ℕ) (t : Sound w b) where
         d (t.single q j p k g h m (bears_in w b p name k e) (sym (first_at w b q (count w q) j m) ∙ f ∙ sym (borne_name p k e))).0)
         ∙ length_first w b q (count w q)
 
-    found_at : (p k : ℕ) → p < 2 → bears w b p name k ≡ true → number_in (book_of w b) name ≡ At (p * half_names + k)
+    found_at : (p k : ℕ) → p < 2 → bears w b p name k ≡ true → number_in (book_of w b) name ≡ Some (p * half_names + k)
     unfolding number_in
     found_at zero k h e =
         let i = bears_in w b 0 name k e in
@@ -143,21 +143,21 @@ module _ (w b : List ℕ) (t : Sound w b) where
     found_at (suc (suc n)) k h e = absurd (omega arith)
 
     -- a half's index and its reading miss no name
-    lookup_absent : (q k : ℕ) → q < 2 → k < count w q → lookup_of w b q name ≡ Nothing → name_at w b q k ≡ name → ⊥
+    lookup_absent : (q k : ℕ) → q < 2 → k < count w q → lookup_of w b q name ≡ None → name_at w b q k ≡ name → ⊥
     lookup_absent q k g i e f =
         by_proposal (probe_of w b q name)
         (λ j x. at_nothing (lookup_entry w b q name j x ∙ e))
         (λ j x. t.indexed q k g i j (rw f x))
         (λ x. not_borne q k i (scan_none w b name q (count w q) 0 (lookup_full w b q name x refl ∙ e) k (omega arith) (omega arith)) f)
 
-    pub absent_all : (p : ℕ) → p < 2 → find_of w b p name ≡ Nothing → (q k : ℕ) → q < 2 → k < count w q → name_at w b q k ≡ name → ⊥
+    pub absent_all : (p : ℕ) → p < 2 → find_of w b p name ≡ None → (q k : ℕ) → q < 2 → k < count w q → name_at w b q k ≡ name → ⊥
     absent_all p h e q k g i =
         let f = find_none w b name p e in
         by_bool (eqb q p)
         (λ x. lookup_absent q k g i (rw (eqb-true q p x) f.0))
         (λ x. let d = eqb-false q p x in let y : q ≡ 1 - p = omega (arith, d) in lookup_absent q k g i (rw y f.1))
 
-    pub found_none : ((q k : ℕ) → q < 2 → k < count w q → name_at w b q k ≡ name → ⊥) → number_in (book_of w b) name ≡ Nothing
+    pub found_none : ((q k : ℕ) → q < 2 → k < count w q → name_at w b q k ≡ name → ⊥) → number_in (book_of w b) name ≡ None
     unfolding number_in
     found_none f =
         sym (if_no _ _ _ (le-ltb _ _ (none 0 (omega arith))) (if_no _ _ _ (le-ltb _ _ (none 1 (omega arith))) refl))
@@ -170,7 +170,7 @@ module _ (w b : List ℕ) (t : Sound w b) where
     pub found : (p : ℕ) → p < 2 → number_in (book_of w b) name ≡ find_of w b p name
     found p h =
         by_found (find_of w b p name)
-        (λ n e. let r = find_in w b name p h e in found_at r.party r.place r.there r.borne ∙ ap At (sym r.number) ∙ sym e)
+        (λ n e. let r = find_in w b name p h e in found_at r.party r.place r.there r.borne ∙ ap Some (sym r.number) ∙ sym e)
         (λ e. found_none (absent_all p h e) ∙ sym e)
 
 -- no name is in both halves
@@ -198,7 +198,7 @@ pub record Meant (w b : List ℕ) (o : Outcome) (r : Reply) : Type 0 where
   pub means : book_of o.words o.bytes ≡ r.after
   pub sound : Sound o.words o.bytes
 
-module _ (w b : List ℕ) (t : Sound w b) (p : ℕ) (two : p < 2) (name : Name) (nothing : find_of w b p name ≡ Nothing) where
+module _ (w b : List ℕ) (t : Sound w b) (p : ℕ) (two : p < 2) (name : Name) (nothing : find_of w b p name ≡ None) where
   abbrev s : ℕ
   s = free_of (probe_of w b p name)
 

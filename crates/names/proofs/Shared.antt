@@ -1,4 +1,5 @@
 -- The request's sentences, over the book: numbers stay, equal names have equal numbers, who is refused, what the other party can do.
+use Rattle.std.proofs.Common.{None, Some}
 use Prim.Native.Nat.{ℕ, zero, suc, ◌+◌, ◌-◌, ◌*◌, ◌/◌, ◌%◌, ◌≤◌, ◌<◌}
 use native.Mathlib.Omega.{arith}
 use borrow.Author.Tests.{lt-ltb, le-ltb, ltb-true, ltb-false, leb-true, leb-false}
@@ -14,7 +15,6 @@ use Rattle.refusal.specs.Refusals.{no_party, no_room}
 use Rattle.names.specs.Book.{Name, Book, half, place, size, number_in, added, Reply, reply, new_in, ask, mark_in, name_in, Call, asks}
 use Rattle.names.specs.Layout.{half_names, half_bytes, table_names}
 use Rattle.names.specs.Answers.{Number, Refused}
-use Rattle.names.specs.declared.NameFound.TheVariants.{At, Nothing}
 use Rattle.names.proofs.Gives.{by_found}
 use Rattle.names.proofs.Parts.{same_refl}
 use Rattle.names.proofs.Means.{place_name}
@@ -63,18 +63,18 @@ pub record InContractor (b : Book) (n : Name) (k : ℕ) : Type 0 where
   pub number : k ≡ half_names + place n b.contractor
 
 module _ (b : Book) (n : Name) where
-  pub number_planner : {k : ℕ} → InPlanner b n k → number_in b n ≡ At k
+  pub number_planner : {k : ℕ} → InPlanner b n k → number_in b n ≡ Some k
   unfolding number_in
-  number_planner r = sym (if_yes _ _ _ (lt-ltb (place n b.planner) (length b.planner) r.less) (ap At r.number))
+  number_planner r = sym (if_yes _ _ _ (lt-ltb (place n b.planner) (length b.planner) r.less) (ap Some r.number))
 
-  pub number_contractor : {k : ℕ} → InContractor b n k → number_in b n ≡ At k
+  pub number_contractor : {k : ℕ} → InContractor b n k → number_in b n ≡ Some k
   unfolding number_in
   number_contractor r =
       let e = r.none in
       sym (if_no _ _ _ (le-ltb (place n b.planner) (length b.planner) (omega arith))
-      (if_yes _ _ _ (lt-ltb (place n b.contractor) (length b.contractor) r.less) (ap At r.number)))
+      (if_yes _ _ _ (lt-ltb (place n b.contractor) (length b.contractor) r.less) (ap Some r.number)))
 
-  pub number_none : place n b.planner ≡ length b.planner → place n b.contractor ≡ length b.contractor → number_in b n ≡ Nothing
+  pub number_none : place n b.planner ≡ length b.planner → place n b.contractor ≡ length b.contractor → number_in b n ≡ None
   unfolding number_in
   number_none e f =
       sym (if_no _ _ _ (le-ltb (place n b.planner) (length b.planner) (omega arith))
@@ -92,20 +92,20 @@ module _ (b : Book) (n : Name) where
       (λ u. g (half_names + place n b.contractor) (record { none = e; less = ltb-true (place n b.contractor) (length b.contractor) u; number = refl }))
       (λ u. let y = ltb-false (place n b.contractor) (length b.contractor) u in h e (omega (arith, place_le n b.contractor))))
 
-pub at_same : {j k : ℕ} → At j ≡ At k → j ≡ k
+pub at_same : {j k : ℕ} → Some j ≡ Some k → j ≡ k
 at_same e = cc
 
-pub at_none : {k : ℕ} → At k ≡ Nothing → ⊥
+pub at_none : {k : ℕ} → Some k ≡ None → ⊥
 at_none e = impossible cc
 
 -- a number in the book stays when a name that is not there is added
-pub number_stays : (b : Book) (p : ℕ) (x n : Name) {k : ℕ} → number_in b x ≡ Nothing → number_in b n ≡ At k → number_in (added b p x) n ≡ At k
+pub number_stays : (b : Book) (p : ℕ) (x n : Name) {k : ℕ} → number_in b x ≡ None → number_in b n ≡ Some k → number_in (added b p x) n ≡ Some k
 number_stays b p x n {k} e f = stays p
   where
     differ : x ≡ n → ⊥
     differ g = at_none (sym f ∙ ap (λ (z : Name). number_in b z) (sym g) ∙ e)
 
-    stays : (q : ℕ) → number_in (added b q x) n ≡ At k
+    stays : (q : ℕ) → number_in (added b q x) n ≡ Some k
     stays zero =
         where_is b n
         (λ j r. number_planner (added b 0 x) n
@@ -130,9 +130,9 @@ number_stays b p x n {k} e f = stays p
 
 -- the ways of a call
 pub record Ways (b : Book) (p : ℕ) (n : Name) (r : Reply) : Type 0 where
-  pub way : ((k : ℕ) × (number_in b n ≡ At k) × (r ≡ reply (Number k) b))
-      ⊎ ((number_in b n ≡ Nothing) × (length (half b p) < half_names) × (size (half b p) + length n ≤ half_bytes) × (r ≡ reply (Number (p * half_names + length (half b p))) (added b p n)))
-      ⊎ ((number_in b n ≡ Nothing) × ((half_names ≤ length (half b p)) ⊎ (half_bytes < size (half b p) + length n)) × (r ≡ reply (Refused no_room) b))
+  pub way : ((k : ℕ) × (number_in b n ≡ Some k) × (r ≡ reply (Number k) b))
+      ⊎ ((number_in b n ≡ None) × (length (half b p) < half_names) × (size (half b p) + length n ≤ half_bytes) × (r ≡ reply (Number (p * half_names + length (half b p))) (added b p n)))
+      ⊎ ((number_in b n ≡ None) × ((half_names ≤ length (half b p)) ⊎ (half_bytes < size (half b p) + length n)) × (r ≡ reply (Refused no_room) b))
 
 pub ways : (b : Book) (p : ℕ) (n : Name) → p < 2 → Ways b p n (ask b p n)
 unfolding ask new_in
@@ -158,12 +158,12 @@ pub ask_stranger : (b : Book) (p : ℕ) (n : Name) → 2 ≤ p → ask b p n ≡
 unfolding ask
 ask_stranger b p n h = sym (if_no _ _ _ (le-ltb p 2 h) refl)
 
-pub ask_there : (b : Book) (p : ℕ) (n : Name) {k : ℕ} → p < 2 → number_in b n ≡ At k → ask b p n ≡ reply (Number k) b
+pub ask_there : (b : Book) (p : ℕ) (n : Name) {k : ℕ} → p < 2 → number_in b n ≡ Some k → ask b p n ≡ reply (Number k) b
 unfolding ask
 ask_there b p n h e = sym (if_yes _ _ _ (lt-ltb p 2 h) (rw e))
 
 -- a call leaves the book as it was, or adds a name that is not there
-pub after_is : (b : Book) (p : ℕ) (n : Name) → ((ask b p n).after ≡ b) ⊎ ((number_in b n ≡ Nothing) × (p < 2) × (length (half b p) < half_names) × ((ask b p n).after ≡ added b p n))
+pub after_is : (b : Book) (p : ℕ) (n : Name) → ((ask b p n).after ≡ b) ⊎ ((number_in b n ≡ None) × (p < 2) × (length (half b p) < half_names) × ((ask b p n).after ≡ added b p n))
 after_is b p n =
     by_bool (ltb p 2)
     (λ t. let two = ltb-true p 2 t in
@@ -173,11 +173,11 @@ after_is b p n =
     (λ t. inl (ap (λ (r : Reply). r.after) (ask_stranger b p n (ltb-false p 2 t))))
 
 -- a number, once given, is the name's in every later book
-pub ask_keeps : (b : Book) (p : ℕ) (x n : Name) {k : ℕ} → number_in b n ≡ At k → number_in (ask b p x).after n ≡ At k
+pub ask_keeps : (b : Book) (p : ℕ) (x n : Name) {k : ℕ} → number_in b n ≡ Some k → number_in (ask b p x).after n ≡ Some k
 ask_keeps b p x n e =
     ⊎_elim (λ y. rw y e) (λ y. rw y.3 (number_stays b p x n y.0 e)) (after_is b p x)
 
-pub asks_keep : (b : Book) (cs : List Call) (n : Name) {k : ℕ} → number_in b n ≡ At k → number_in (asks b cs) n ≡ At k
+pub asks_keep : (b : Book) (cs : List Call) (n : Name) {k : ℕ} → number_in b n ≡ Some k → number_in (asks b cs) n ≡ Some k
 unfolding asks
 asks_keep b [] n e = e
 asks_keep b (c ∷ cs) n e = asks_keep (ask b c.party c.name).after cs n (ask_keeps b c.party c.name n e)
@@ -189,7 +189,7 @@ refused_not : {j k : ℕ} → Refused j ≡ Number k → ⊥
 refused_not e = impossible cc
 
 -- a name that is added is found at the number given
-added_number : (b : Book) (p : ℕ) (n : Name) → p < 2 → number_in b n ≡ Nothing → number_in (added b p n) n ≡ At (p * half_names + length (half b p))
+added_number : (b : Book) (p : ℕ) (n : Name) → p < 2 → number_in b n ≡ None → number_in (added b p n) n ≡ Some (p * half_names + length (half b p))
 added_number b zero n h e =
     where_is b n
     (λ j r. absurd (at_none (sym (number_planner b n r) ∙ e)))
@@ -204,16 +204,16 @@ added_number b (suc zero) n h e =
     (record { none = u; less = rw (place_new n b.contractor v, length_more b.contractor n) (omega arith); number = rw (place_new n b.contractor v) (omega arith) }))
 added_number b (suc (suc p)) n h e = absurd (omega arith)
 
-pub ask_gives : (b : Book) (p : ℕ) (n : Name) {k : ℕ} → (ask b p n).answer ≡ Number k → number_in (ask b p n).after n ≡ At k
+pub ask_gives : (b : Book) (p : ℕ) (n : Name) {k : ℕ} → (ask b p n).answer ≡ Number k → number_in (ask b p n).after n ≡ Some k
 ask_gives b p n {k} e =
     by_bool (ltb p 2)
     (λ t. let two = ltb-true p 2 t in
     ⊎_elim
     (λ x. let y : Number x.0 ≡ Number k = sym (ap (λ (r : Reply). r.answer) x.2) ∙ e in
-    rw (ap (λ (r : Reply). r.after) x.2) (x.1 ∙ ap At (number_same y)))
+    rw (ap (λ (r : Reply). r.after) x.2) (x.1 ∙ ap Some (number_same y)))
     (⊎_elim
     (λ x. let y = sym (ap (λ (r : Reply). r.answer) x.3) ∙ e in
-    rw (ap (λ (r : Reply). r.after) x.3) (added_number b p n two x.0 ∙ ap At (number_same y)))
+    rw (ap (λ (r : Reply). r.after) x.3) (added_number b p n two x.0 ∙ ap Some (number_same y)))
     (λ x. absurd (refused_not (sym (ap (λ (r : Reply). r.answer) x.2) ∙ e))))
     (ways b p n two).way)
     (λ t. absurd (refused_not (sym (ap (λ (r : Reply). r.answer) (ask_stranger b p n (ltb-false p 2 t))) ∙ e)))
@@ -236,7 +236,7 @@ asks_few b [] f = f
 asks_few b (c ∷ cs) f = asks_few (ask b c.party c.name).after cs (ask_few b c.party c.name f)
 
 -- a number gives its name back
-pub number_name_holds : (b : Book) (n : Name) {k : ℕ} → Few b → number_in b n ≡ At k → (mark_in b k ≡ 0) × (name_in b k ≡ n)
+pub number_name_holds : (b : Book) (n : Name) {k : ℕ} → Few b → number_in b n ≡ Some k → (mark_in b k ≡ 0) × (name_in b k ≡ n)
 unfolding mark_in name_in
 number_name_holds b n {k} f e =
     where_is b n
@@ -261,13 +261,13 @@ number_name_holds b n {k} f e =
 -- ---- who is refused
 
 -- 36 exactly if the name is absent and the own half lacks the entry or the bytes
-pub refused_if : (b : Book) (p : ℕ) (n : Name) → p < 2 → number_in b n ≡ Nothing → (half_names ≤ length (half b p)) ⊎ (half_bytes < size (half b p) + length n) → (ask b p n).answer ≡ Refused no_room
+pub refused_if : (b : Book) (p : ℕ) (n : Name) → p < 2 → number_in b n ≡ None → (half_names ≤ length (half b p)) ⊎ (half_bytes < size (half b p) + length n) → (ask b p n).answer ≡ Refused no_room
 refused_if b p n two e f =
     ⊎_elim (λ x. absurd (at_none (sym x.1 ∙ e)))
     (⊎_elim (λ x. absurd (⊎_elim (λ y. let a = x.1 in omega arith) (λ y. let a = x.2 in omega arith) f)) (λ x. ap (λ (r : Reply). r.answer) x.2))
     (ways b p n two).way
 
-pub refused_only : (b : Book) (p : ℕ) (n : Name) → p < 2 → (ask b p n).answer ≡ Refused no_room → (number_in b n ≡ Nothing) × ((half_names ≤ length (half b p)) ⊎ (half_bytes < size (half b p) + length n))
+pub refused_only : (b : Book) (p : ℕ) (n : Name) → p < 2 → (ask b p n).answer ≡ Refused no_room → (number_in b n ≡ None) × ((half_names ≤ length (half b p)) ⊎ (half_bytes < size (half b p) + length n))
 refused_only b p n two e =
     ⊎_elim (λ x. absurd (refused_not (sym e ∙ ap (λ (r : Reply). r.answer) x.2)))
     (⊎_elim (λ x. absurd (refused_not (sym e ∙ ap (λ (r : Reply). r.answer) x.3))) (λ x. (x.0, x.1)))
@@ -282,7 +282,7 @@ only_turns b c p n two e more r =
     refused_if b p n two (absent p two e more s.0) (rw e s.1)
   where
     absent : (q : ℕ) → q < 2 → half b q ≡ half c q
-        → (place n (half b (1 - q)) < length (half b (1 - q)) → place n (half c (1 - q)) < length (half c (1 - q))) → number_in c n ≡ Nothing → number_in b n ≡ Nothing
+        → (place n (half b (1 - q)) < length (half b (1 - q)) → place n (half c (1 - q)) < length (half c (1 - q))) → number_in c n ≡ None → number_in b n ≡ None
     absent zero h f m z =
         where_is b n
         (λ k r. absurd (at_none (sym (number_planner c n (record { less = rw f at r.less; number = refl })) ∙ z)))

@@ -1,4 +1,5 @@
 -- The theorems over lent memory: the table that the opening call and later calls make.
+use Rattle.std.proofs.Common.{Some}
 use Prim.Native.Nat.{ℕ, ◌+◌, ◌-◌, ◌*◌, ◌/◌, ◌%◌, ◌≤◌, ◌<◌}
 use native.Mathlib.Omega.{arith}
 use borrow.Author.Tests.{ltb-true, ltb-false, leb-true, leb-false}
@@ -16,7 +17,6 @@ use Rattle.names.specs.Call.{find_of, probe_of, slot_of, tag_of, free_of, new_wo
 use Rattle.names.specs.Call.{open_words, mark_of, name_of, looks, Opening}
 use Rattle.names.specs.Book.{Name, Book, book, half, place, size, number_in, Reply, ask, mark_in, name_in, Call, asks, first_names, names_of, book_of, Memory, memory, calls}
 use Rattle.names.specs.Answers.{Told, Number, Refused}
-use Rattle.names.specs.declared.NameFound.TheVariants.{At}
 use Rattle.names.proofs.Laws.{slot_small, Bounds, bounds, cleared, length-cleared, party_of, open_few, open_short, open_all}
 use Rattle.names.proofs.Laws.{name_none, name_there, mark_outside, mark_far, mark_none, mark_there}
 use Rattle.names.proofs.Gives.{by_found, free_small, enter_outside, enter_party, enter_there, enter_new}
@@ -136,7 +136,7 @@ pub record Given (m : Memory) (n : Name) (k : ℕ) : Type 0 where
   pub back : name_of m.words m.bytes k ≡ n
   pub again : (q : ℕ) → q < 2 → (enter_of m.words m.bytes q n).answer ≡ Number k
 
-given_in : (m : Memory) (x : Book) (n : Name) {k : ℕ} → Standing m x → Few x → number_in x n ≡ At k → Given m n k
+given_in : (m : Memory) (x : Book) (n : Name) {k : ℕ} → Standing m x → Few x → number_in x n ≡ Some k → Given m n k
 given_in m x n {k} s f e =
     let r = number_name_holds x n f e in
     record {

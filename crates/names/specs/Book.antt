@@ -1,12 +1,10 @@
 -- What the table means: the names that each party entered first, in order; and a call on that. This is the request's text.
-use Rattle.std.specs.Prelude.{ℕ, zero, suc, ◌+◌, ◌*◌, ◌/◌, ◌%◌, List, [], ◌∷◌, ◌++◌, ltb, leb, length, get_or, if◌then◌else◌}
+use Rattle.std.specs.Prelude.{ℕ, zero, suc, ◌+◌, ◌*◌, ◌/◌, ◌%◌, List, [], ◌∷◌, ◌++◌, ltb, leb, length, get_or, if◌then◌else◌, None, Option, Some}
 use Rattle.laws.specs.Texts.{same}
 use Rattle.refusal.specs.Refusals.{no_party, no_room, no_name}
 use Rattle.names.specs.Layout.{half_names, half_bytes, table_names, count, name_at}
 use Rattle.names.specs.Call.{enter_of}
 use Rattle.names.specs.Answers.{Told, Number, Refused}
-use Rattle.names.specs.declared.NameFound.{NameFound}
-use Rattle.names.specs.declared.NameFound.TheVariants.{At, Nothing}
 
 abbrev pub Name : Type 0
 Name = List ℕ
@@ -33,11 +31,11 @@ size [] = 0
 size (x ∷ xs) = length x + size xs
 
 -- a name's number, whoever asks: its place, plus 512 in the half of party 1
-unfoldable pub number_in : Book → Name → NameFound
+unfoldable pub number_in : Book → Name → Option ℕ
 number_in b n =
     if ltb (place n b.planner) (length b.planner)
-    then At (place n b.planner)
-    else if ltb (place n b.contractor) (length b.contractor) then At (half_names + place n b.contractor) else Nothing
+    then Some (place n b.planner)
+    else if ltb (place n b.contractor) (length b.contractor) then Some (half_names + place n b.contractor) else None
 
 abbrev pub added : Book → ℕ → Name → Book
 added b zero n = book (b.planner ++ (n ∷ [])) b.contractor
@@ -59,9 +57,9 @@ new_in b p n =
     else reply (Refused no_room) b)
     else reply (Refused no_room) b
 
-abbrev pub answered : NameFound → Book → ℕ → Name → Reply
-answered (At k) b p n = reply (Number k) b
-answered Nothing b p n = new_in b p n
+abbrev pub answered : Option ℕ → Book → ℕ → Name → Reply
+answered (Some k) b p n = reply (Number k) b
+answered None b p n = new_in b p n
 
 -- party p asks for the number of n; 35: a party other than 0 or 1
 unfoldable pub ask : Book → ℕ → Name → Reply

@@ -1,5 +1,5 @@
 -- The calls on the table, each with its answer and the final contents of the lent memory.
-use Rattle.std.specs.Prelude.{ℕ, zero, suc, ◌+◌, ◌-◌, ◌*◌, ◌/◌, ◌%◌, Bool, false, List, [], ◌∷◌, ◌++◌, eqb, ltb, leb, length, take, drop, set, replicate, if◌then◌else◌}
+use Rattle.std.specs.Prelude.{ℕ, zero, suc, ◌+◌, ◌-◌, ◌*◌, ◌/◌, ◌%◌, Bool, false, List, [], ◌∷◌, ◌++◌, eqb, ltb, leb, length, take, drop, set, replicate, if◌then◌else◌, None, Option, Some}
 use Rattle.laws.specs.Lent.{written}
 use Rattle.refusal.specs.Refusals.{out_of_bounds, no_party, no_room, no_name}
 use Rattle.names.specs.Layout.{half_names, half_bytes, first_bound, first_slot, index_slots, half_words, table_names, table_bytes, table_words}
@@ -8,11 +8,9 @@ use Rattle.names.specs.declared.Place.{Place}
 use Rattle.names.specs.Answers.{Told, Number, Refused}
 use Rattle.names.specs.declared.Proposal.{Proposal}
 use Rattle.names.specs.declared.Proposal.TheVariants.{Entry, Free, Full}
-use Rattle.names.specs.declared.NameFound.{NameFound}
-use Rattle.names.specs.declared.NameFound.TheVariants.{At, Nothing}
 
 -- A name's hash: a product hash in 32 bits, four bytes a turn and the last ones one by one. Its top ten bits are the slot at which the
--- search for the name begins, the other 22 its tag. Nothing that is promised rests on its being a good one.
+-- search for the name begins, the other 22 its tag. None that is promised rests on its being a good one.
 abbrev pub factor : ℕ
 factor = 1640531527
 
@@ -78,29 +76,29 @@ abbrev pub probe_of : List ℕ → List ℕ → ℕ → List ℕ → Proposal
 probe_of w b p name = probe looks w b p name (slot_of name)
 
 -- the number of the first of n entries from k on that bears the name
-unfoldable pub scan : ℕ → List ℕ → List ℕ → ℕ → List ℕ → ℕ → NameFound
-scan zero w b p name k = Nothing
-scan (suc n) w b p name k = let more = scan n w b p name (k + 1) in if bears w b p name k then At (p * half_names + k) else more
+unfoldable pub scan : ℕ → List ℕ → List ℕ → ℕ → List ℕ → ℕ → Option ℕ
+scan zero w b p name k = None
+scan (suc n) w b p name k = let more = scan n w b p name (k + 1) in if bears w b p name k then Some (p * half_names + k) else more
 
-abbrev pub scanned : List ℕ → List ℕ → ℕ → List ℕ → NameFound
+abbrev pub scanned : List ℕ → List ℕ → ℕ → List ℕ → Option ℕ
 scanned w b p name = scan (count w p) w b p name 0
 
 -- an entry's number is its place in its half, plus that of the half
-abbrev pub numbered : ℕ → Proposal → NameFound → NameFound
-numbered p (Entry k) read = At (p * half_names + k)
-numbered p (Free s) read = Nothing
+abbrev pub numbered : ℕ → Proposal → Option ℕ → Option ℕ
+numbered p (Entry k) read = Some (p * half_names + k)
+numbered p (Free s) read = None
 numbered p Full read = read
 
 -- the number of a name that is in a half: by the index, and by reading the names where the index gives neither entry nor empty slot
-unfoldable pub lookup_of : List ℕ → List ℕ → ℕ → List ℕ → NameFound
+unfoldable pub lookup_of : List ℕ → List ℕ → ℕ → List ℕ → Option ℕ
 lookup_of w b p name = numbered p (probe_of w b p name) (scanned w b p name)
 
-abbrev pub or_else : NameFound → NameFound → NameFound
-or_else (At n) f = At n
-or_else Nothing f = f
+abbrev pub or_else : Option ℕ → Option ℕ → Option ℕ
+or_else (Some n) f = Some n
+or_else None f = f
 
 -- the number of a name that is there, whoever entered it
-unfoldable pub find_of : List ℕ → List ℕ → ℕ → List ℕ → NameFound
+unfoldable pub find_of : List ℕ → List ℕ → ℕ → List ℕ → Option ℕ
 find_of w b p name = or_else (lookup_of w b p name) (lookup_of w b (1 - p) name)
 
 -- what a call gives: its answer, and the final contents of the lent memory
@@ -141,9 +139,9 @@ new_of w b p name =
     else outcome (Refused no_room) w b)
     else outcome (Refused no_room) w b
 
-abbrev pub given : NameFound → List ℕ → List ℕ → ℕ → List ℕ → Outcome
-given (At n) w b p name = outcome (Number n) w b
-given Nothing w b p name = new_of w b p name
+abbrev pub given : Option ℕ → List ℕ → List ℕ → ℕ → List ℕ → Outcome
+given (Some n) w b p name = outcome (Number n) w b
+given None w b p name = new_of w b p name
 
 -- a party asks for a name's number: 27, 35, 36 in that order
 unfoldable pub enter_of : List ℕ → List ℕ → ℕ → List ℕ → Outcome

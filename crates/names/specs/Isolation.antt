@@ -1,20 +1,18 @@
 -- What the answers to a party may depend on, its own half being given: the definitions of docs/NAMES.md, "What each party can learn".
-use Rattle.std.specs.Prelude.{ℕ, ◌+◌, ◌-◌, ◌*◌, Bool, true, false, List, [], ◌∷◌, ◌++◌, eqb, ltb, leb, length, if◌then◌else◌}
+use Rattle.std.specs.Prelude.{ℕ, ◌+◌, ◌-◌, ◌*◌, Bool, true, false, List, [], ◌∷◌, ◌++◌, eqb, ltb, leb, length, if◌then◌else◌, None, Option, Some}
 use Rattle.refusal.specs.Refusals.{no_room}
 use Rattle.names.specs.Layout.{half_names, half_bytes}
 use Rattle.names.specs.Call.{enter_of}
 use Rattle.names.specs.Book.{Name, Book, half, place, size, ask, Call}
 use Rattle.names.specs.Answers.{Told, Number, Refused}
-use Rattle.names.specs.declared.NameFound.{NameFound}
-use Rattle.names.specs.declared.NameFound.TheVariants.{At, Nothing}
 
 -- whether a name is one of a half's names
 abbrev pub present : List Name → Name → Bool
 present l n = ltb (place n l) (length l)
 
 -- the number that a name has among the names of party q, if it is one of them: all that party p is told of the other's names
-abbrev pub seen : ℕ → List Name → Name → NameFound
-seen q l n = if present l n then At (q * half_names + place n l) else Nothing
+abbrev pub seen : ℕ → List Name → Name → Option ℕ
+seen q l n = if present l n then Some (q * half_names + place n l) else None
 
 -- whether a half has an entry and the bytes for a name
 abbrev pub room : List Name → Name → Bool
@@ -24,13 +22,13 @@ room own n = if ltb (length own) half_names then leb (size own + length n) half_
 abbrev pub new_answer : ℕ → List Name → Name → Told
 new_answer p own n = if room own n then Number (p * half_names + length own) else Refused no_room
 
-abbrev pub told_or : NameFound → Told → Told
-told_or (At k) a = Number k
-told_or Nothing a = a
+abbrev pub told_or : Option ℕ → Told → Told
+told_or (Some k) a = Number k
+told_or None a = a
 
 -- the answer to party p: by its own names alone where the name is one of them; else the number that the name has among the other's names;
 -- else by the own names alone again
-abbrev pub answer_of : ℕ → List Name → NameFound → Name → Told
+abbrev pub answer_of : ℕ → List Name → Option ℕ → Name → Told
 answer_of p own other n = if present own n then Number (p * half_names + place n own) else told_or other (new_answer p own n)
 
 -- the own names after the call: of the other's names it matters only whether the name is one of them

@@ -2,16 +2,15 @@
 ghost use Rattle.std.specs.Prelude.{◌≡◌, ◌+◌, ◌≤◌, ◌<◌, length, replicate};
 ghost use Rattle.laws.specs.Lent.{written};
 ghost use Rattle.names.specs.Layout.{half_names, half_bytes, index_slots, table_words, count, used, Readable};
-ghost use Rattle.names.specs.Answers.{told_of};
+ghost use Rattle.names.specs.Answers.{told_of, mark_in};
 ghost use Rattle.names.specs.Call.{hashes_aSlot, tag_of, probe_of, free_of, new_words, laid, outcome, new_of, enter_of, opening, open_of};
 
+use crate::NameError;
 use crate::finding::{find, hash, tag_of};
 use crate::layout::{
     FIRST_BOUND, FIRST_SLOT, HALF_BYTES, HALF_NAMES, HALF_WORDS, TABLE_BYTES, TABLE_WORDS,
     in_bounds, word,
 };
-use crate::{Entered, NameFound};
-use refusal::{NO_PARTY, NO_ROOM, OUT_OF_BOUNDS, SERVED};
 
 // How many parties there are.
 const PARTIES: u32 = 2;
@@ -21,11 +20,7 @@ fn copy(bytes: &mut [u8], at: usize, name: &[u8])
     requires { at + length name.now ≤ length bytes.old }
     ensures { bytes.new ≡ laid at name.now bytes.old }
 {
-    let mut i = 0;
-    while i < name.len() {
-        bytes[at + i] = name[i];
-        i += 1;
-    }
+    bytes[at..at + name.len()].copy_from_slice(name);
 }
 
 // Writes the words of one entry more, of `len` bytes, which the index proposes at a slot under a tag.
@@ -54,7 +49,7 @@ fn add(
     name: &[u8],
     slot: usize,
     tag: usize,
-) -> Entered
+) -> Result<u32, NameError>
     requires slot_value { slot ≡ free_of (probe_of words.old bytes.old party name.now) }
     requires tag_value { tag ≡ tag_of name.now }
     requires readable { Readable words.old bytes.old party }
@@ -63,26 +58,26 @@ fn add(
 {
     let n = word(words, party * HALF_WORDS);
     if HALF_NAMES <= n {
-        return Entered::Refused(NO_ROOM);
+        return Err(NameError::NoRoom);
     }
     let from = word(words, party * HALF_WORDS + FIRST_BOUND + n);
     if HALF_BYTES - from < name.len() {
-        return Entered::Refused(NO_ROOM);
+        return Err(NameError::NoRoom);
     }
     put(words, party, slot, tag, n, from, name.len());
     copy(bytes, party * HALF_BYTES + from, name);
-    Entered::Number((party * HALF_NAMES + n) as u32)
+    Ok((party * HALF_NAMES + n) as u32)
 }
 
 // A party asks for a name's number; a name that is in neither half is entered in the party's own.
-pub fn enter(words: &mut [u32], bytes: &mut [u8], party: u32, name: &[u8]) -> Entered
+pub fn enter(words: &mut [u32], bytes: &mut [u8], party: u32, name: &[u8]) -> Result<u32, NameError>
     ensures { outcome (told_of result) words.new bytes.new ≡ enter_of words.old bytes.old party name.now }
 {
     if !in_bounds(words, bytes) {
-        return Entered::Refused(OUT_OF_BOUNDS);
+        return Err(NameError::OutOfBounds);
     }
     if PARTIES <= party {
-        return Entered::Refused(NO_PARTY);
+        return Err(NameError::NoParty);
     }
     let p = party as usize;
     let h = hash(name);
@@ -90,8 +85,8 @@ pub fn enter(words: &mut [u32], bytes: &mut [u8], party: u32, name: &[u8]) -> En
     let number = found.number;
     let free = found.free;
     match number {
-        NameFound::At(n) => Entered::Number(n as u32),
-        NameFound::Nothing => add(words, bytes, p, name, free, tag_of(h)),
+        Some(n) => Ok(n as u32),
+        None => add(words, bytes, p, name, free, tag_of(h)),
     }
 }
 
@@ -100,23 +95,19 @@ fn clear(words: &mut [u32])
     requires { table_words ≤ length words.old }
     ensures { words.new ≡ written (replicate table_words 0) words.old }
 {
-    let mut i = 0;
-    while i < TABLE_WORDS {
-        words[i] = 0;
-        i += 1;
-    }
+    words[..TABLE_WORDS].fill(0);
 }
 
-// The opening call: SERVED, and the table is empty; or OUT_OF_BOUNDS where too little is lent.
-pub fn open_table(words: &mut [u32], bytes: &[u8]) -> u32
-    ensures { opening result words.new ≡ open_of words.old bytes.now }
+// The opening call: the table is then empty. Refused where too little is lent.
+pub fn open_table(words: &mut [u32], bytes: &[u8]) -> Result<(), NameError>
+    ensures { opening (mark_in result) words.new ≡ open_of words.old bytes.now }
 {
     if words.len() < TABLE_WORDS {
-        return OUT_OF_BOUNDS;
+        return Err(NameError::OutOfBounds);
     }
     if bytes.len() < TABLE_BYTES {
-        return OUT_OF_BOUNDS;
+        return Err(NameError::OutOfBounds);
     }
     clear(words);
-    SERVED
+    Ok(())
 }

@@ -5,7 +5,7 @@ ghost use Rattle.names.specs.Call.{hashes, hashes_aSlot, turn, rest, hash_of, ta
 
 use crate::blocks::{FOUR, byte, four};
 use crate::layout::{FIRST_SLOT, HALF_NAMES, HALF_WORDS, INDEX_SLOTS, bears, word};
-use crate::{NameFound, Proposal, Sought};
+use crate::{Proposal, Sought};
 
 // The hash of a name has 32 bits: the top ten are a slot, the others a tag.
 const FACTOR: u64 = 1640531527;
@@ -33,10 +33,8 @@ fn rest(name: &[u8], from: usize, start: u64) -> u64
     ensures { result ≡ rest start (drop from name.now) }
 {
     let mut h = start;
-    let mut i = from;
-    while i < name.len() {
+    for i in from..name.len() {
         h = turn(h, byte(name, i));
-        i += 1;
     }
     h
 }
@@ -76,10 +74,7 @@ fn proposes(words: &[u32], bytes: &[u8], party: usize, name: &[u8], tag: usize, 
     requires readable { Readable words.now bytes.now party }
     ensures { result ≡ proposes words.now bytes.now party name.now v }
 {
-    if (v - 1) / HALF_NAMES != tag {
-        return false;
-    }
-    bears(words, bytes, party, name, (v - 1) % HALF_NAMES)
+    (v - 1) / HALF_NAMES == tag && bears(words, bytes, party, name, (v - 1) % HALF_NAMES)
 }
 
 // Asks a half's index for a name, whose hash is h.
@@ -91,8 +86,7 @@ fn probe(words: &[u32], bytes: &[u8], party: usize, name: &[u8], h: u64) -> Prop
     let tag = tag_of(h);
     let base = party * HALF_WORDS + FIRST_SLOT;
     let mut s = slot_of(h);
-    let mut left: usize = LOOKS;
-    while 0 < left {
+    for _step in 0..LOOKS {
         let v = word(words, base + s);
         if v == 0 {
             return Proposal::Free(s);
@@ -101,25 +95,22 @@ fn probe(words: &[u32], bytes: &[u8], party: usize, name: &[u8], h: u64) -> Prop
             return Proposal::Entry((v - 1) % HALF_NAMES);
         }
         s = (s + 1) % INDEX_SLOTS;
-        left -= 1;
     }
     Proposal::Full
 }
 
 // The first entry of a half that bears the name.
-fn scan(words: &[u32], bytes: &[u8], party: usize, name: &[u8]) -> NameFound
+fn scan(words: &[u32], bytes: &[u8], party: usize, name: &[u8]) -> Option<usize>
     requires { Readable words.now bytes.now party }
     ensures { result ≡ scanned words.now bytes.now party name.now }
 {
     let n = word(words, party * HALF_WORDS);
-    let mut k = 0;
-    while k < n {
+    for k in 0..n {
         if bears(words, bytes, party, name, k) {
-            return NameFound::At(party * HALF_NAMES + k);
+            return Some(party * HALF_NAMES + k);
         }
-        k += 1;
     }
-    NameFound::Nothing
+    None
 }
 
 // The slot at which an entry is proposed: the empty one that was found, else the one that is never asked.
@@ -134,14 +125,14 @@ fn free_of(x: Proposal) -> usize
 }
 
 // The number of a name that is in a half, by what its index says: the names are read where that is neither yes nor no.
-fn number_by(words: &[u32], bytes: &[u8], party: usize, name: &[u8], x: Proposal) -> NameFound
+fn number_by(words: &[u32], bytes: &[u8], party: usize, name: &[u8], x: Proposal) -> Option<usize>
     requires x_value { x ≡ probe_of words.now bytes.now party name.now }
     requires readable { Readable words.now bytes.now party }
     ensures { result ≡ lookup_of words.now bytes.now party name.now }
 {
     match x {
-        Proposal::Entry(k) => NameFound::At(party * HALF_NAMES + k),
-        Proposal::Free(_) => NameFound::Nothing,
+        Proposal::Entry(k) => Some(party * HALF_NAMES + k),
+        Proposal::Free(_) => None,
         Proposal::Full => scan(words, bytes, party, name),
     }
 }
@@ -176,8 +167,8 @@ pub fn find(words: &[u32], bytes: &[u8], party: usize, name: &[u8], h: u64) -> S
         }
         free = said.free;
         match number {
-            NameFound::At(_) => return Sought { number, free },
-            NameFound::Nothing => half = 1 - party,
+            Some(_) => return Sought { number, free },
+            None => half = 1 - party,
         }
     }
 }

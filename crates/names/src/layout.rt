@@ -79,10 +79,7 @@ pub fn bears(words: &[u32], bytes: &[u8], party: usize, name: &[u8], k: usize) -
     ensures { result ≡ bears words.now bytes.now party name.now k }
 {
     let n = word(words, party * HALF_WORDS);
-    if n <= k {
-        return false;
-    }
-    equal(name_at(words, bytes, party, k), name)
+    k < n && equal(name_at(words, bytes, party, k), name)
 }
 
 // Whether a half's count of names and of name bytes are within its bounds.
@@ -93,11 +90,7 @@ fn half_in_bounds(words: &[u32], party: usize) -> bool
 {
     let base = party * HALF_WORDS;
     let n = word(words, base);
-    if HALF_NAMES < n {
-        return false;
-    }
-    let used = word(words, base + FIRST_BOUND + n);
-    used <= HALF_BYTES
+    n <= HALF_NAMES && word(words, base + FIRST_BOUND + n) <= HALF_BYTES
 }
 
 // Whether lent memory is within the bounds of docs/NAMES.md.
@@ -110,9 +103,5 @@ pub fn in_bounds(words: &[u32], bytes: &[u8]) -> bool
     if bytes.len() < TABLE_BYTES {
         return false;
     }
-    if half_in_bounds(words, 0) {
-        half_in_bounds(words, 1)
-    } else {
-        false
-    }
+    half_in_bounds(words, 0) && half_in_bounds(words, 1)
 }

@@ -5,6 +5,11 @@
 // specs/Layout.antt, and specs/Call.antt is what the contracts cite. docs/NAMES.md has the memory and its bounds in words.
 #![tactic(auto)]
 
+ghost use Rattle.std.specs.Prelude.{◌≡◌};
+ghost use Rattle.names.specs.Answers.{error_number};
+
+use refusal::{NO_NAME, NO_PARTY, NO_ROOM, OUT_OF_BOUNDS};
+
 mod blocks;
 mod entering;
 mod finding;
@@ -14,13 +19,31 @@ mod naming;
 pub use entering::{enter, open_table};
 pub use naming::{name_mark, name_of, place_of};
 
-// The answer to a party that asks for a name's number.
+// Why a call on the table is refused.
 #[derive(Clone, Copy)]
-pub enum Entered {
-    // the name's number: 0 for the first name of party 0, 512 for the first of party 1
-    Number(u32),
-    // 27, 35 or 36
-    Refused(u32),
+pub enum NameError {
+    // the words or the bytes are outside their bounds
+    OutOfBounds,
+    // the party is neither 0 nor 1
+    NoParty,
+    // the name is absent, and the party's own half lacks the entry or the bytes
+    NoRoom,
+    // there is no name of this number
+    NoName,
+}
+
+impl NameError {
+    // Document 01's number of the refusal.
+    pub fn number(self) -> u32
+        ensures { result ≡ error_number self }
+    {
+        match self {
+            NameError::OutOfBounds => OUT_OF_BOUNDS,
+            NameError::NoParty => NO_PARTY,
+            NameError::NoRoom => NO_ROOM,
+            NameError::NoName => NO_NAME,
+        }
+    }
 }
 
 // Where a name lies in the lent bytes; 0 and 0 where there is none.
@@ -41,18 +64,11 @@ pub enum Proposal {
     Full,
 }
 
-// The number of a name, if it is there.
-#[derive(Clone, Copy)]
-pub enum NameFound {
-    At(usize),
-    Nothing,
-}
-
 // What a half, or both, answer for a name.
 #[derive(Clone, Copy)]
 pub struct Sought {
     // its number, if it is there
-    pub number: NameFound,
+    pub number: Option<usize>,
     // the slot of the index at which it goes if it is entered
     pub free: usize,
 }

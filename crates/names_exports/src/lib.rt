@@ -3,18 +3,29 @@
 #![tactic(auto)]
 
 ghost use Rattle.std.specs.Prelude.{◌≡◌};
+ghost use Rattle.names.specs.Answers.{mark_in};
 ghost use Rattle.names.specs.Call.{opening, open_of, enter_of, mark_of, place_of};
 ghost use Rattle.names.specs.Layout.{placed};
 ghost use Rattle.names_exports.specs.Marks.{entered, entered_of};
 
-use names::Entered;
+use names::NameError;
 use refusal::SERVED;
+
+// The mark of a call that comes with no number.
+fn mark(r: Result<(), NameError>) -> u32
+    ensures { result ≡ mark_in r }
+{
+    match r {
+        Ok(()) => SERVED,
+        Err(e) => e.number(),
+    }
+}
 
 // Opens a table: its words are cleared.
 pub fn mihadrena_names_open(words: &mut [u32], bytes: &[u8]) -> u32
     ensures { opening result words.new ≡ open_of words.old bytes.now }
 {
-    names::open_table(words, bytes)
+    mark(names::open_table(words, bytes))
 }
 
 // A party asks for a name's number.
@@ -28,13 +39,13 @@ pub fn mihadrena_names_enter(
     ensures { entered result number.new words.new bytes.new ≡ entered_of (enter_of words.old bytes.old party name.now) }
 {
     match names::enter(words, bytes, party, name) {
-        Entered::Number(n) => {
+        Ok(n) => {
             *number = n;
             SERVED
         }
-        Entered::Refused(mark) => {
+        Err(e) => {
             *number = 0;
-            mark
+            e.number()
         }
     }
 }
@@ -52,5 +63,5 @@ pub fn mihadrena_names_place(
     let lies = names::place_of(words, bytes, number);
     *start = lies.start;
     *end = lies.end;
-    names::name_mark(words, bytes, number)
+    mark(names::name_mark(words, bytes, number))
 }

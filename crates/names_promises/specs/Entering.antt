@@ -1,5 +1,5 @@
 -- The call that asks for a number: `names::enter` ensures `outcome (told_of r) words' bytes' ≡ enter_of words bytes party name`.
-use Rattle.std.specs.Prelude.{ℕ, zero, suc, ◌+◌, ◌-◌, ◌*◌, ◌/◌, ◌%◌, ◌≡◌, refl, List, [], ◌∷◌, ◌++◌, replicate, get_or}
+use Rattle.std.specs.Prelude.{Result, Ok, Err, ℕ, zero, suc, ◌+◌, ◌-◌, ◌*◌, ◌/◌, ◌%◌, ◌≡◌, refl, List, [], ◌∷◌, ◌++◌, replicate, get_or}
 use Rattle.std.proofs.Common.{sym, ap, ◌∙◌}
 use Rattle.laws.specs.Quoted.{codes}
 use Rattle.laws.specs.Texts.{same}
@@ -8,18 +8,39 @@ use Rattle.refusal.specs.Refusals.{out_of_bounds, no_party, no_room}
 use Rattle.names.specs.Layout.{half_names, half_bytes, half_words, first_slot, table_words, table_bytes, place_at, name_at, bears, half_bounds, is_in_bounds}
 use Rattle.names.specs.Call.{rest, mix, slot_of, tag_of, slot_word, proposes, probe, scan, lookup_of, find_of, new_words, laid, new_of, Outcome, outcome, enter_of}
 use Rattle.names.specs.Answers.{Number, Refused, told_of}
-use Rattle.names.specs.declared.Entered.{Entered}
-use Rattle.names.specs.declared.Entered.TheVariants as case
+use Rattle.names.specs.declared.NameError.{NameError}
+use Rattle.names.specs.declared.NameError.TheVariants as error
 
 -- two answers that mean the same are the same
-entered_once : (x y : Entered) → told_of x ≡ told_of y → x ≡ y
-entered_once (case.Number j) (case.Number k) e = cc
-entered_once (case.Refused j) (case.Refused k) e = cc
-entered_once (case.Number j) (case.Refused k) e = impossible cc
-entered_once (case.Refused j) (case.Number k) e = impossible cc
+entered_once : (x y : Result ℕ NameError) → told_of x ≡ told_of y → x ≡ y
+entered_once (Ok j) (Ok k) e = cc
+entered_once (Ok j) (Err error.OutOfBounds) e = impossible cc
+entered_once (Ok j) (Err error.NoParty) e = impossible cc
+entered_once (Ok j) (Err error.NoRoom) e = impossible cc
+entered_once (Ok j) (Err error.NoName) e = impossible cc
+entered_once (Err error.OutOfBounds) (Ok k) e = impossible cc
+entered_once (Err error.OutOfBounds) (Err error.OutOfBounds) e = refl
+entered_once (Err error.OutOfBounds) (Err error.NoParty) e = impossible cc
+entered_once (Err error.OutOfBounds) (Err error.NoRoom) e = impossible cc
+entered_once (Err error.OutOfBounds) (Err error.NoName) e = impossible cc
+entered_once (Err error.NoParty) (Ok k) e = impossible cc
+entered_once (Err error.NoParty) (Err error.OutOfBounds) e = impossible cc
+entered_once (Err error.NoParty) (Err error.NoParty) e = refl
+entered_once (Err error.NoParty) (Err error.NoRoom) e = impossible cc
+entered_once (Err error.NoParty) (Err error.NoName) e = impossible cc
+entered_once (Err error.NoRoom) (Ok k) e = impossible cc
+entered_once (Err error.NoRoom) (Err error.OutOfBounds) e = impossible cc
+entered_once (Err error.NoRoom) (Err error.NoParty) e = impossible cc
+entered_once (Err error.NoRoom) (Err error.NoRoom) e = refl
+entered_once (Err error.NoRoom) (Err error.NoName) e = impossible cc
+entered_once (Err error.NoName) (Ok k) e = impossible cc
+entered_once (Err error.NoName) (Err error.OutOfBounds) e = impossible cc
+entered_once (Err error.NoName) (Err error.NoParty) e = impossible cc
+entered_once (Err error.NoName) (Err error.NoRoom) e = impossible cc
+entered_once (Err error.NoName) (Err error.NoName) e = refl
 
 -- so two permitted answers coincide, with the memory after them
-one_answer : (w b : List ℕ) (p : ℕ) (n : List ℕ) (x y : Entered) (v c v' c' : List ℕ) → outcome (told_of x) v c ≡ enter_of w b p n
+one_answer : (w b : List ℕ) (p : ℕ) (n : List ℕ) (x y : Result ℕ NameError) (v c v' c' : List ℕ) → outcome (told_of x) v c ≡ enter_of w b p n
     → outcome (told_of y) v' c' ≡ enter_of w b p n
     → (x ≡ y) × ((v ≡ v') × (c ≡ c'))
 one_answer w b p n x y v c v' c' e f =

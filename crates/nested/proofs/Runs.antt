@@ -10,12 +10,13 @@ use Rattle.laws.proofs.Choice.{no_yes}
 use Rattle.nested.specs.Items.{count_of, class_at}
 use Rattle.nested.specs.Grammar.{Node, node, closer, kind_of}
 use Rattle.nested.specs.Reader.{Level, level, Levels, state, give, gained, tailed}
-use Rattle.nested.specs.Said.{reads, Wrote, Put, Simples, Run, loose, grown, begun_of, LevelSaid, SaidBy, SequenceSaid, dropping, is_plan, arrive}
+use Rattle.nested.specs.Said.{got, reads, Wrote, Put, Simples, Run, loose, grown, begun_of, LevelSaid, SaidBy, SequenceSaid, dropping, is_plan, arrive}
 use Rattle.nested.specs.declared.Class.TheVariants.{Simple, Closes}
 use Rattle.nested.specs.declared.Frame.{Frame}
 use Rattle.nested.specs.declared.Frame.TheVariants.{Plan, Quoting, Dropping, Fresh, Holds, Dotted, Tailed}
 use Rattle.nested.specs.declared.Read.{Read}
-use Rattle.nested.specs.declared.Read.TheVariants.{Got, Failed}
+use Rattle.nested.specs.Errors.{Answer}
+use Rattle.std.proofs.Common.{Ok, Err}
 use Rattle.nested.proofs.Steps.{keeps, give-keeps, closes_on}
 use Rattle.nested.proofs.Places.{reads_on}
 use Rattle.nested.proofs.Memory.{wrote_none, wrote_more, wrote_node}
@@ -119,20 +120,20 @@ module _ (s : List ℕ) (from : ℕ) where
 -- ---- a level, from the record that opens it on
 
 -- what is said of a sequence, said of the level that it fills
-sequence_level : (s : List ℕ) (from depth : ℕ) (f : Frame) (first : ℕ) (old new : List ℕ) (r : Read) → is_plan f ≡ false
+sequence_level : (s : List ℕ) (from depth : ℕ) (f : Frame) (first : ℕ) (old new : List ℕ) (r : Answer Read) → is_plan f ≡ false
     → SequenceSaid s from depth f first old new r → LevelSaid s from depth f first old new r
 sequence_level s from depth f first old new r p h = subst (λ (b : Bool). SaidBy b s from depth f first old new r) p h
 
-pub opened_sequence : (s : List ℕ) (at depth : ℕ) (f : Frame) (w : ℕ) (old new : List ℕ) (r : Read) → is_plan f ≡ false
+pub opened_sequence : (s : List ℕ) (at depth : ℕ) (f : Frame) (w : ℕ) (old new : List ℕ) (r : Answer Read) → is_plan f ≡ false
     → SequenceSaid s (at + 1) depth f (w + 1) old new r → OpenedSaid s at depth f w old new r
-opened_sequence s at depth f w old new (Got next v kind) p h =
-    let L = sequence_level s (at + 1) depth f (w + 1) old new (Got next v kind) p h in (
+opened_sequence s at depth f w old new (Ok r) p h =
+    let L = sequence_level s (at + 1) depth f (w + 1) old new (Ok r) p h in (
       L.0,
       record { past = omega (arith, L.1.past); inside = L.1.inside; count = L.1.count; few = L.1.few },
       L.2,
       λ m ls e. L.3 at [] m ls e,
     )
-opened_sequence s at depth f w old new (Failed n p) q h = λ m ls e. sequence_level s (at + 1) depth f (w + 1) old new (Failed n p) q h at [] m ls e
+opened_sequence s at depth f w old new (Err x) q h = λ m ls e. sequence_level s (at + 1) depth f (w + 1) old new (Err x) q h at [] m ls e
 
 begun_grown : (b : ℕ) (ns : List Node) → begun_of b (length ns) ≡ grown ns (Fresh b)
 begun_grown b [] = refl
@@ -158,7 +159,7 @@ module _ (s : List ℕ) (at depth w b : ℕ) (old mid : List ℕ) (end : ℕ) (f
   shuts (n ∷ ns) m ls h e d = reads_on s end depth (Closes (closer b)) (Holds b) at (n ∷ ns) (m ∷ ls) h (sym e) d (closes_on b)
 
   pub opened_leaf : (v kind : ℕ) → end < count_of s → class_at s end ≡ Closes (closer b) → v ≡ w + (end - at) → kind ≡ kind_of b
-      → OpenedSaid s at depth (Fresh b) w old mid (Got (end + 1) v kind)
+      → OpenedSaid s at depth (Fresh b) w old mid (Ok (got (end + 1) v kind))
   opened_leaf v kind h e c k = (
     R.simples.ns,
     record {
@@ -185,15 +186,15 @@ module _ (s : List ℕ) (at depth w b : ℕ) (old mid : List ℕ) (end : ℕ) (f
   rest_few = omega (arith, R.simples.count)
 
   module _ (g : Frame) (v : ℕ) (new : List ℕ) (e : g ≡ begun_of b (end - at - 1)) (c : v ≡ w + (end - at)) (l : length mid ≡ length old) where
-    rest_level : (r : Read) → SequenceSaid s end depth g v mid new r → LevelSaid s end depth (grown R.simples.ns (Fresh b)) v mid new r
+    rest_level : (r : Answer Read) → SequenceSaid s end depth g v mid new r → LevelSaid s end depth (grown R.simples.ns (Fresh b)) v mid new r
     rest_level r h = subst (λ (f : Frame). LevelSaid s end depth f v mid new r) (rest_frame g e) (sequence_level s end depth g v mid new r (rest_inner g e) h)
 
     rest_place : v ≡ w + 1 + length R.simples.ns
     rest_place = omega (arith, R.simples.count)
 
-    pub opened_run : (r : Read) → SequenceSaid s end depth g v mid new r → OpenedSaid s at depth (Fresh b) w old new r
-    opened_run (Got next x kind) h =
-        let L = rest_level (Got next x kind) h in (
+    pub opened_run : (r : Answer Read) → SequenceSaid s end depth g v mid new r → OpenedSaid s at depth (Fresh b) w old new r
+    opened_run (Ok r) h =
+        let L = rest_level (Ok r) h in (
           R.simples.ns ++ L.0,
           record {
             past = omega (arith, L.1.past, R.simples.count);
@@ -203,6 +204,6 @@ module _ (s : List ℕ) (at depth w b : ℕ) (old mid : List ℕ) (end : ℕ) (f
           },
           wrote_more s (w + 1) R.simples.ns L.0 old mid new l R.wrote (subst (λ (n : ℕ). Wrote s n L.0 mid new) rest_place L.2),
           λ m ls d. inner m ls ∙ L.3 at R.simples.ns m ls d
-              ∙ ap (λ (b : Bool). reads s (arrive b (node kind at (length (R.simples.ns ++ L.0)) ∷ (R.simples.ns ++ L.0)) m ls) next) (grown_kept b R.simples.ns),
+              ∙ ap (λ (b : Bool). reads s (arrive b (node r.kind at (length (R.simples.ns ++ L.0)) ∷ (R.simples.ns ++ L.0)) m ls) r.next) (grown_kept b R.simples.ns),
         )
-    opened_run (Failed n p) h = λ m ls d. inner m ls ∙ rest_level (Failed n p) h at R.simples.ns m ls d
+    opened_run (Err x) h = λ m ls d. inner m ls ∙ rest_level (Err x) h at R.simples.ns m ls d

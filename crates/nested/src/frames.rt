@@ -146,8 +146,5 @@ pub fn begun(s: u64, n: usize) -> Frame
 pub fn skipped(f: Frame, w: usize, d: Read) -> Turn
     ensures { result ≡ skipped_of f w d }
 {
-    match d {
-        Read::Got(p, _v, _kind) => Turn::On(p, w, same(f)),
-        Read::Failed(n, p) => Turn::Stop(n, p),
-    }
+    Turn::On(d.next, w, same(f))
 }

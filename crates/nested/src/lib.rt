@@ -10,7 +10,8 @@
 ghost use Rattle.std.specs.Prelude.{◌≡◌, true, false, ◌+◌, ◌*◌, ◌-◌, ◌<◌, ◌≤◌, length};
 ghost use Rattle.nested.specs.Items.{count_of};
 ghost use Rattle.nested.specs.Grammar.{deepest};
-ghost use Rattle.nested.specs.Lent.{outcome, nested_of};
+ghost use Rattle.nested.specs.Errors.{error_number};
+ghost use Rattle.nested.specs.Lent.{told_of, outcome, nested_of};
 ghost use Rattle.nested.specs.Said.{Put, Above, Took, Simples, Run, TurnSaid, Begins, SequenceSaid, PlanSaid};
 
 use classes::{NO_SIMPLE, class_at, closes_at, is_simple_at, simple_at};
@@ -56,27 +57,68 @@ pub enum Frame {
     Tailed(u64),
 }
 
-// The next record, the next node and the kind of the node of what was read; or a refusal with its record.
+// What follows on something that was read, and the kind of its node.
 #[derive(Clone, Copy)]
-pub enum Read {
-    Got(usize, usize, u32),
-    Failed(u32, usize),
+pub struct Read {
+    // the next record
+    pub next: usize,
+    // the next node
+    pub node: usize,
+    pub kind: u32,
 }
 
-// What one record of a level does, with the datum that starts there: reading goes on at a record and a node in a frame; the level is shut,
-// and the next record and node follow it; or a refusal with its record.
+// What one record of a level does, with the datum that starts there: reading goes on at a record and a node in a frame; or the level is
+// shut, and the next record and node follow it.
 #[derive(Clone, Copy)]
 pub enum Turn {
     On(usize, usize, Frame),
     Shut(usize, usize),
-    Stop(u32, usize),
 }
 
-// The number of nodes; or a refusal with its record, at the end the number of records.
+// Why records have no nodes, each with the smallest text that shows it.
 #[derive(Clone, Copy)]
-pub enum Nested {
-    Built(usize),
-    Refused(u32, usize),
+pub enum NestErrorKind {
+    // a kind that no record has, or a detail that its kind does not have
+    Alien,
+    // an error item: ##
+    ErrorItem,
+    // a close, a dot or the end where a mark waits for its datum: '
+    MarkWaits,
+    // a dot outside a round, square or curly list, a second one, or one without data on both sides: .
+    MisplacedDot,
+    // a wrong or stray close: )
+    WrongClose,
+    // the end with a bracket open: (
+    BracketOpen,
+    // a level inside 64 others
+    TooDeep,
+    // the nodes do not fit
+    FewNodes,
+}
+
+impl NestErrorKind {
+    // Document 01's number of the refusal.
+    pub fn number(self) -> u32
+        ensures { result ≡ error_number self }
+    {
+        match self {
+            NestErrorKind::Alien => refusal::ALIEN,
+            NestErrorKind::ErrorItem => refusal::ERROR_ITEM,
+            NestErrorKind::MarkWaits => refusal::MARK_WAITS,
+            NestErrorKind::MisplacedDot => refusal::MISPLACED_DOT,
+            NestErrorKind::WrongClose => refusal::WRONG_CLOSE,
+            NestErrorKind::BracketOpen => refusal::BRACKET_OPEN,
+            NestErrorKind::TooDeep => refusal::TOO_DEEP,
+            NestErrorKind::FewNodes => refusal::FEW_NODES,
+        }
+    }
+}
+
+// A refusal and its record: at the end the number of records, and 0 where the nodes do not fit.
+#[derive(Clone, Copy)]
+pub struct NestError {
+    pub kind: NestErrorKind,
+    pub at: usize,
 }
 
 // Writes the node at node place `w`.
@@ -99,25 +141,13 @@ fn put(nodes: &mut [u32], w: usize, kind: u32, item: usize, beneath: usize)
     }
 }
 
-// The lesser of two.
-fn least(a: usize, b: usize) -> usize
-    ensures { (result ≤ a) × (result ≤ b) }
-{
-    if a < b { a } else { b }
-}
-
 // A level is shut and is a datum of the frame f: its node at node place w, with the nodes beneath it from there up to v.
 fn took(nodes: &mut [u32], f: Frame, opened: usize, w: usize, r: Read) -> Turn
     requires { Above w r }
     ensures { Took f opened w nodes.old nodes.new r result }
 {
-    match r {
-        Read::Got(p, v, kind) => {
-            put(nodes, w, kind, opened, v - w - 1);
-            held(f, p, v)
-        }
-        Read::Failed(n, p) => Turn::Stop(n, p),
-    }
+    put(nodes, w, r.kind, opened, r.node - w - 1);
+    held(f, r.next, r.node)
 }
 
 // Where a run of simple data ends.
@@ -125,14 +155,12 @@ fn simples_end(records: &[u32], count: usize, from: usize) -> usize
     requires { (count ≡ count_of records.now) × (from ≤ count) }
     ensures { Simples records.now from result }
 {
-    let mut at = from;
-    while at < count {
+    for at in from..count {
         if !is_simple_at(records, at) {
             return at;
         }
-        at += 1;
     }
-    at
+    count
 }
 
 // Where a run of simple data ends, as far as there are nodes for it; they are written from node place w on. There are never more nodes
@@ -141,7 +169,7 @@ fn put_simples(records: &[u32], count: usize, from: usize, nodes: &mut [u32], w:
     requires { (count ≡ count_of records.now) × (from ≤ count) × (w ≤ from) }
     ensures { Run records.now from w nodes.old nodes.new result }
 {
-    let limit = least(count, nodes.len() / NODE_WORDS);
+    let limit = count.min(nodes.len() / NODE_WORDS);
     let mut at = from;
     let mut v = w;
     while at < limit {
@@ -178,44 +206,54 @@ fn datum(
     f: Frame,
     nodes: &mut [u32],
     w: usize,
-) -> Turn
+) -> Result<Turn, NestError>
     requires { (count ≡ count_of records.now) × (at < count) × (w ≤ at) × (depth ≤ deepest) }
     ensures { TurnSaid records.now at depth f w nodes.old nodes.new result }
 {
     let k = class_at(records, at);
-    let n = wrong_at(k, f, depth);
-    if n != refusals::NO_REFUSAL {
-        return Turn::Stop(n, at);
+    if let Err(kind) = wrong_at(k, f, depth) {
+        return Err(NestError { kind, at });
     }
     let inner = depth + 1;
     match k {
-        Class::Alien => Turn::Stop(refusal::ALIEN, at),
-        Class::Fails => Turn::Stop(refusal::ERROR_ITEM, at),
-        Class::Passes => Turn::On(at + 1, w, same(f)),
+        Class::Alien => Err(NestError {
+            kind: NestErrorKind::Alien,
+            at,
+        }),
+        Class::Fails => Err(NestError {
+            kind: NestErrorKind::ErrorItem,
+            at,
+        }),
+        Class::Passes => Ok(Turn::On(at + 1, w, same(f))),
         Class::Drops => {
             let mut none = [0u32; 1];
-            let r = sequence(records, count, at + 1, inner, Frame::Dropping, &mut none, 1);
-            skipped(f, w, r)
+            let r = sequence(records, count, at + 1, inner, Frame::Dropping, &mut none, 1)?;
+            Ok(skipped(f, w, r))
         }
         Class::Marks => {
-            let r = sequence(records, count, at + 1, inner, Frame::Quoting, nodes, w + 1);
-            took(nodes, f, at, w, r)
+            let r = sequence(records, count, at + 1, inner, Frame::Quoting, nodes, w + 1)?;
+            Ok(took(nodes, f, at, w, r))
         }
         Class::Simple(m) => {
             put(nodes, w, m, at, 0);
-            held(f, at + 1, w + 1)
+            Ok(held(f, at + 1, w + 1))
         }
         Class::Opens(s) => {
             let end = simples(records, count, at + 1, nodes, w + 1);
             let v = w + (end - at);
             if closes_at(records, count, end, s) {
-                return took(nodes, f, at, w, Read::Got(end + 1, v, shape_kind(s)));
+                let leaf = Read {
+                    next: end + 1,
+                    node: v,
+                    kind: shape_kind(s),
+                };
+                return Ok(took(nodes, f, at, w, leaf));
             }
-            let r = sequence(records, count, end, inner, begun(s, end - at - 1), nodes, v);
-            took(nodes, f, at, w, r)
+            let r = sequence(records, count, end, inner, begun(s, end - at - 1), nodes, v)?;
+            Ok(took(nodes, f, at, w, r))
         }
-        Class::Closes(_bracket) => Turn::Shut(at + 1, w),
-        Class::Dots => Turn::On(at + 1, w, pointed_at(f)),
+        Class::Closes(_bracket) => Ok(Turn::Shut(at + 1, w)),
+        Class::Dots => Ok(Turn::On(at + 1, w, pointed_at(f))),
     }
 }
 
@@ -230,7 +268,7 @@ fn sequence(
     f: Frame,
     nodes: &mut [u32],
     first: usize,
-) -> Read
+) -> Result<Read, NestError>
     requires { Begins records.now count from depth f first }
     ensures { SequenceSaid records.now from depth f first nodes.old nodes.new result }
 {
@@ -238,30 +276,32 @@ fn sequence(
     let mut v = first;
     let mut g = f;
     while at < count {
-        let t = datum(records, count, at, depth, g, nodes, v);
+        let t = datum(records, count, at, depth, g, nodes, v)?;
         match t {
             Turn::On(p, x, h) => {
                 at = p;
                 v = x;
                 g = h;
             }
-            Turn::Shut(p, x) => {
-                return Read::Got(p, x, node_kind(g));
-            }
-            Turn::Stop(n, p) => {
-                return Read::Failed(n, p);
+            Turn::Shut(next, node) => {
+                let kind = node_kind(g);
+                return Ok(Read { next, node, kind });
             }
         }
     }
-    let n = ending_at(g);
-    if n == refusals::NO_REFUSAL {
-        return Read::Got(count, v, node_kind(g));
+    if let Err(kind) = ending_at(g) {
+        return Err(NestError { kind, at: count });
     }
-    Read::Failed(n, count)
+    let kind = node_kind(g);
+    Ok(Read {
+        next: count,
+        node: v,
+        kind,
+    })
 }
 
 // The data of the whole text.
-fn plan(records: &[u32], nodes: &mut [u32]) -> Read
+fn plan(records: &[u32], nodes: &mut [u32]) -> Result<Read, NestError>
     ensures { PlanSaid records.now nodes.old nodes.new result }
 {
     let count = records.len() / RECORD_WORDS;
@@ -269,22 +309,21 @@ fn plan(records: &[u32], nodes: &mut [u32]) -> Read
 }
 
 // The nodes of the records, written from the start of `nodes` on; or the refusal, and `nodes` stays as it was.
-pub fn build(records: &[u32], nodes: &mut [u32]) -> Nested
-    ensures { outcome result nodes.new ≡ nested_of records.now nodes.old }
+pub fn build(records: &[u32], nodes: &mut [u32]) -> Result<usize, NestError>
+    ensures { outcome (told_of result) nodes.new ≡ nested_of records.now nodes.old }
 {
     let mut none = [0u32; 1];
-    let r = plan(records, &mut none);
-    match r {
-        Read::Got(_p, v, _kind) => {
-            if nodes.len() / NODE_WORDS < v {
-                return Nested::Refused(refusal::FEW_NODES, 0);
-            }
-            if WORD < records.len() / RECORD_WORDS {
-                return Nested::Refused(refusal::FEW_NODES, 0);
-            }
-            plan(records, nodes);
-            Nested::Built(v)
-        }
-        Read::Failed(n, p) => Nested::Refused(n, p),
+    let counted = plan(records, &mut none)?;
+    let few = NestError {
+        kind: NestErrorKind::FewNodes,
+        at: 0,
+    };
+    if nodes.len() / NODE_WORDS < counted.node {
+        return Err(few);
     }
+    if WORD < records.len() / RECORD_WORDS {
+        return Err(few);
+    }
+    plan(records, nodes)?;
+    Ok(counted.node)
 }

@@ -3,8 +3,7 @@ use Prim.Native.Nat.{ℕ}
 use mathlib.Core.Path.{◌≡◌, ap, ◌∙◌}
 use mathlib.Core.List.{List, [], ◌∷◌}
 use Rattle.chars.specs.Encode.{lay}
-use Rattle.nested.specs.Lent.{nest_number, nest_value, Outcome, outcome}
-use Rattle.nested.specs.declared.Nested.{Nested}
+use Rattle.nested.specs.Lent.{nest_number, nest_value, Outcome, outcome, Nested}
 
 pub told : (c : Outcome) (values : List ℕ) {a : Nested} {nodes : List ℕ} {n v : ℕ} {now : List ℕ} → outcome a nodes ≡ c
     → n ≡ nest_number a → v ≡ nest_value a → now ≡ lay (v ∷ []) values

@@ -3,10 +3,10 @@
 
 ghost use Rattle.std.specs.Prelude.{◌≡◌, [], ◌∷◌};
 ghost use Rattle.chars.specs.Encode.{lay};
-ghost use Rattle.nested.specs.Lent.{nest_number, nest_value, nested_of};
+ghost use Rattle.nested.specs.Lent.{told_of, nest_number, nest_value, nested_of};
 
 use exports_values::{NumberAndValue, put_value};
-use nested::Nested;
+use nested::NestError;
 use refusal::SERVED;
 
 // An answer of a number and a value.
@@ -17,12 +17,12 @@ fn tell(number: u32, value: u64) -> NumberAndValue
 }
 
 // An answer by its number and its value.
-fn answer(a: Nested) -> NumberAndValue
-    ensures { (result.number ≡ nest_number a) × (result.value ≡ nest_value a) }
+fn answer(a: Result<usize, NestError>) -> NumberAndValue
+    ensures { (result.number ≡ nest_number (told_of a)) × (result.value ≡ nest_value (told_of a)) }
 {
     match a {
-        Nested::Built(nodes) => tell(SERVED, nodes as u64),
-        Nested::Refused(number, record) => tell(number, record as u64),
+        Ok(nodes) => tell(SERVED, nodes as u64),
+        Err(e) => tell(e.kind.number(), e.at as u64),
     }
 }
 

@@ -9,8 +9,7 @@ use Rattle.nested.specs.Items.{last_error, boolean, number, character, string, s
 use Rattle.nested.specs.Items.{abbreviation, has_detail, sort_of, class_of, items_from, items_of, count_of}
 use Rattle.nested.specs.Grammar.{Node, node}
 use Rattle.nested.specs.Reader.{Result, Nodes, No, run, read_on, give_in, start}
-use Rattle.nested.specs.Lent.{words_of, nested_of, outcome}
-use Rattle.nested.specs.declared.Nested.TheVariants.{Built, Refused}
+use Rattle.nested.specs.Lent.{words_of, nested_of, outcome, Built, Refused}
 
 -- a record by its kind and its detail; its other words are 0
 infix 80 ◌#◌

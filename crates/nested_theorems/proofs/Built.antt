@@ -6,8 +6,7 @@ use mathlib.Core.List.{List}
 use lib.ListN.{length}
 use Rattle.nested.specs.Items.{items_of}
 use Rattle.nested.specs.Grammar.{Node, Reading}
-use Rattle.nested.specs.Lent.{words_of, spliced, nested_of, Outcome}
-use Rattle.nested.specs.declared.Nested.TheVariants.{Built}
+use Rattle.nested.specs.Lent.{words_of, spliced, nested_of, Outcome, Built}
 use Rattle.nested.proofs.Exactly.{served, only}
 use Rattle.nested_theorems.specs.Depth.{opens, closes}
 use Rattle.nested_theorems.specs.Trees.{Trees}

@@ -15,10 +15,9 @@ use Rattle.nested.specs.Items.{Item, item, items_from, items_of, count_of, class
 use Rattle.nested.specs.Grammar.{Node, Reading}
 use Rattle.nested.specs.Reader.{Level, level, Levels, state, Result, Nodes, No, start, wrong, ending, run, read_on}
 use Rattle.nested.specs.Order.{at_record, at_end}
-use Rattle.nested.specs.Lent.{fits, outcome, given, nested_of, words_of, spliced}
+use Rattle.nested.specs.Lent.{fits, outcome, given, nested_of, words_of, spliced, Built, Refused}
 use Rattle.nested.specs.declared.Class.{Class}
 use Rattle.nested.specs.declared.Frame.{Frame}
-use Rattle.nested.specs.declared.Nested.TheVariants.{Built, Refused}
 use Rattle.nested.proofs.First.{Way, here, step, way_runs, Stopped, stopped, at_record_case, at_end_case, placed, possible, rules_out, end_rules_out}
 use Rattle.nested.proofs.First as first
 use Rattle.nested.proofs.InOrder.{in_order, end_in_order}

@@ -1,4 +1,7 @@
 -- A plus and a text, read as a number: what each branch of the code says. Whether something is a real does not rest on its place.
+use Rattle.numbers.specs.declared.Parts.{Parts}
+use Rattle.numbers.specs.declared.Real.{Real}
+use Rattle.digits.specs.declared.Int.{Int}
 use Prim.Native.Nat.{ℕ, suc, ◌+◌, ◌-◌, ◌≤◌, ◌<◌}
 use mathlib.Core.Path.{◌≡◌, refl, sym, ap, ◌∙◌}
 use mathlib.Core.Bool.{Bool, true, false, ◌&&◌, ◌||◌}
@@ -7,21 +10,15 @@ use lib.ListN.{length, take, drop}
 use lib.Dec.{eqb, ltb}
 use native.Mathlib.Omega.{arith}
 use borrow.Author.Tests.{lt-ltb, le-ltb}
-use Rattle.std.specs.Prelude.{if◌then◌else◌}
+use Rattle.std.specs.Prelude.{if◌then◌else◌, None, Option, Some}
 use Rattle.laws.specs.Quoted.{code, codes}
 use Rattle.laws.specs.Texts.{span, before, starts, same}
 use Rattle.laws.proofs.Choice.{by_bool, impossible}
 use Rattle.digits.specs.declared.Span.{Span}
-use Rattle.digits.specs.declared.MaybeInt.{MaybeInt}
-use Rattle.digits.specs.declared.MaybeInt.TheVariants.{AnInt, NoInt}
 use Rattle.digits.specs.Digits.{digits, sign, negative, uinteger, whole_of, integer}
 use Rattle.numbers.specs.declared.Real.TheVariants.{ImpliedZero}
 use Rattle.numbers.specs.declared.Suffix.{Suffix}
 use Rattle.numbers.specs.declared.Suffix.TheVariants.{Empty, Marked, Bad}
-use Rattle.numbers.specs.declared.MaybeReal.{MaybeReal}
-use Rattle.numbers.specs.declared.MaybeReal.TheVariants.{AReal, NoReal}
-use Rattle.numbers.specs.declared.MaybeParts.{MaybeParts}
-use Rattle.numbers.specs.declared.MaybeParts.TheVariants.{SomeParts, NoParts}
 use Rattle.numbers.specs.Reals.{exponent_marker, exponent, suffix, point_of, dotted, undotted, decimal, infnan, integral_of, rational_of, denominator, exact, or_else, ureal, real}
 use Rattle.numbers.specs.Grammar.{just_of, complex_of, polar_of, ends_i, init, imaginary, alone_of, pair_of, to_sign, starts_e, cut, rectangular, complex}
 use Rattle.numbers.specs.Grammar.{zero_parts, judged, prefix, parse_number, numeric}
@@ -30,9 +27,9 @@ use Rattle.numbers.specs.AfterPlus.{is_real, is_parts}
 
 -- ---- whether there is one, wherever it stands
 
-abbrev is_int : MaybeInt → Bool
-is_int (AnInt n) = true
-is_int NoInt = false
+abbrev is_int : Option Int → Bool
+is_int (Some n) = true
+is_int None = false
 
 -- 0 nothing, 1 an exponent, 2 neither
 abbrev sort : Suffix → ℕ
@@ -77,16 +74,16 @@ whole_moved : (R : ℕ) (neg : Bool) (p q : ℕ) (s : List ℕ) → is_int (whol
 unfolding whole_of
 whole_moved R neg p q s = by_bool (uinteger R s) (λ e. rw e) (λ e. rw e)
 
-integral_int : (n : MaybeInt) → is_real (integral_of n) ≡ is_int n
+integral_int : (n : Option Int) → is_real (integral_of n) ≡ is_int n
 unfolding integral_of
-integral_int (AnInt n) = refl
-integral_int NoInt = refl
+integral_int (Some n) = refl
+integral_int None = refl
 
-rational_int : (n d : MaybeInt) → is_real (rational_of n d) ≡ (is_int n && is_int d)
+rational_int : (n d : Option Int) → is_real (rational_of n d) ≡ (is_int n && is_int d)
 unfolding rational_of
-rational_int (AnInt n) (AnInt d) = refl
-rational_int (AnInt n) NoInt = refl
-rational_int NoInt d = refl
+rational_int (Some n) (Some d) = refl
+rational_int (Some n) None = refl
+rational_int None d = refl
 
 exact_moved : (R : ℕ) (neg : Bool) (p q : ℕ) (s : List ℕ) → is_real (exact R neg p s) ≡ is_real (exact R neg q s)
 unfolding exact denominator integer
@@ -98,10 +95,10 @@ exact_moved R neg p q s = by_bool (ltb (before (code "/") s) (length s))
     ) (sym (rational_int _ _)))))
     (λ e. rw e (integral_int _ ∙ (whole_moved R neg p q s ∙ sym (integral_int _))))
 
-else_real : (a b : MaybeReal) → is_real (or_else a b) ≡ (is_real a || is_real b)
+else_real : (a b : Option Real) → is_real (or_else a b) ≡ (is_real a || is_real b)
 unfolding or_else
-else_real (AReal r) b = refl
-else_real NoReal b = refl
+else_real (Some r) b = refl
+else_real None b = refl
 
 pub ureal_moved : (neg : Bool) (p q : ℕ) (s : List ℕ) → is_real (ureal 10 neg p s) ≡ is_real (ureal 10 neg q s)
 unfolding ureal
@@ -119,27 +116,27 @@ imaginary_moved p q s = by_bool (same s (codes "+"))
 
 -- ---- parts
 
-pub just_real : (a : MaybeReal) → is_parts (just_of a) ≡ is_real a
+pub just_real : (a : Option Real) → is_parts (just_of a) ≡ is_real a
 unfolding just_of
-just_real (AReal x) = refl
-just_real NoReal = refl
+just_real (Some x) = refl
+just_real None = refl
 
-pub complex_real : (a b : MaybeReal) → is_parts (complex_of a b) ≡ (is_real a && is_real b)
+pub complex_real : (a b : Option Real) → is_parts (complex_of a b) ≡ (is_real a && is_real b)
 unfolding complex_of
-complex_real (AReal x) (AReal y) = refl
-complex_real (AReal x) NoReal = refl
-complex_real NoReal b = refl
+complex_real (Some x) (Some y) = refl
+complex_real (Some x) None = refl
+complex_real None b = refl
 
-pub polar_real : (a b : MaybeReal) → is_parts (polar_of a b) ≡ (is_real a && is_real b)
+pub polar_real : (a b : Option Real) → is_parts (polar_of a b) ≡ (is_real a && is_real b)
 unfolding polar_of
-polar_real (AReal x) (AReal y) = refl
-polar_real (AReal x) NoReal = refl
-polar_real NoReal b = refl
+polar_real (Some x) (Some y) = refl
+polar_real (Some x) None = refl
+polar_real None b = refl
 
-numeric_parts : (m : MaybeParts) → numeric (judged m) ≡ is_parts m
+numeric_parts : (m : Option Parts) → numeric (judged m) ≡ is_parts m
 unfolding judged
-numeric_parts (SomeParts p) = by_bool (zero_parts p) (λ e. rw e) (λ e. rw e)
-numeric_parts NoParts = refl
+numeric_parts (Some p) = by_bool (zero_parts p) (λ e. rw e) (λ e. rw e)
+numeric_parts None = refl
 
 -- ---- a plus and t
 
@@ -167,7 +164,7 @@ module _ (t : List ℕ) where
   pub real_nan : false ≡ same t (codes "inf.0") → true ≡ same t (codes "nan.0") → true ≡ is_real (real 10 0 joined)
   real_nan e f = rw (real_is, ← e, ← f)
 
-  pub real_unsigned : {x : MaybeReal} {r : Bool} → false ≡ same t (codes "inf.0") → false ≡ same t (codes "nan.0") → x ≡ ureal 10 false 0 t → r ≡ is_real x
+  pub real_unsigned : {x : Option Real} {r : Bool} → false ≡ same t (codes "inf.0") → false ≡ same t (codes "nan.0") → x ≡ ureal 10 false 0 t → r ≡ is_real x
       → r ≡ is_real (real 10 0 joined)
   real_unsigned e f u g = rw (real_is, ← e, ← f) (rw u at g)
 
@@ -187,7 +184,7 @@ module _ (t : List ℕ) where
   unfolding alone_of sign imaginary same complex_of ends_i starts
   alone_one e h = rw (ends_plus, ← e) (go t e h)
     where
-      go : (l : List ℕ) → true ≡ ends_i l → length l - 1 ≡ 0 → true ≡ is_parts (complex_of (AReal ImpliedZero) (imaginary 10 0 (init (code "+" ∷ l))))
+      go : (l : List ℕ) → true ≡ ends_i l → length l - 1 ≡ 0 → true ≡ is_parts (complex_of (Some ImpliedZero) (imaginary 10 0 (init (code "+" ∷ l))))
       go [] e h = impossible cc
       go (x ∷ []) e h = refl
       go (x ∷ y ∷ u) e h = absurd (omega arith)
@@ -197,13 +194,13 @@ module _ (t : List ℕ) where
   alone_more {n} {r} e h k g = rw (ends_plus, ← e) (g ∙ go t n h k)
     where
       go : (l : List ℕ) (n : ℕ) → n ≡ length l - 1 → (n ≡ 0 → ⊥)
-          → is_real (real 10 0 (code "+" ∷ take n l)) ≡ is_parts (complex_of (AReal ImpliedZero) (imaginary 10 0 (init (code "+" ∷ l))))
+          → is_real (real 10 0 (code "+" ∷ take n l)) ≡ is_parts (complex_of (Some ImpliedZero) (imaginary 10 0 (init (code "+" ∷ l))))
       go [] n h k = absurd (k h)
       go (x ∷ []) n h k = absurd (k h)
       go (x ∷ y ∷ u) n h k =
           let e : n ≡ suc (length u) = omega arith in
           let f : suc (suc (suc (length u))) - 1 ≡ suc (suc (length u)) = omega arith in
-          rw (e, f) (sym (complex_real (AReal ImpliedZero) (real 10 0 (code "+" ∷ x ∷ take (length u) (y ∷ u)))))
+          rw (e, f) (sym (complex_real (Some ImpliedZero) (real 10 0 (code "+" ∷ x ∷ take (length u) (y ∷ u)))))
 
   pub alone_plain : {r : Bool} → false ≡ ends_i t → r ≡ is_real (real 10 0 joined) → r ≡ is_parts (alone_of 10 0 joined)
   unfolding alone_of
@@ -223,7 +220,7 @@ module _ (t : List ℕ) where
       pub pair_first : x ≡ false → false ≡ is_parts (pair_of 10 0 (suc k) joined)
       pair_first e = rw (both_is, e)
 
-      pub pair_second : {z : MaybeReal} {r : Bool} → x ≡ true → k < length t → z ≡ imaginary 10 k (drop k (take (length t - 1) t)) → r ≡ is_real z → r ≡ is_parts (pair_of 10 0 (suc k) joined)
+      pub pair_second : {z : Option Real} {r : Bool} → x ≡ true → k < length t → z ≡ imaginary 10 k (drop k (take (length t - 1) t)) → r ≡ is_real z → r ≡ is_parts (pair_of 10 0 (suc k) joined)
       pair_second {z} {r} e h g w =
           rw (both_is, e) (w ∙ (ap is_real g ∙ (ap (λ (l : List ℕ). is_real (imaginary 10 k l)) (init_is t k h) ∙ imaginary_moved k (0 + suc k) (init (drop k t)))))
 
@@ -245,7 +242,7 @@ module _ (t : List ℕ) where
           let n : suc k + 1 ≡ suc (k + 1) = omega arith in
           plus_parts ∙ (rw (at_there, e, n, f) (polar_real _ _ ∙ rw (real_moved (0 + suc k + 1) (k + 1) (drop (k + 1) t))))
 
-      pub number_polar : {z : MaybeReal} {r : Bool} → x ≡ true → z ≡ real 10 (k + 1) (drop (k + 1) t) → r ≡ is_real z → r ≡ numeric (parse_number joined)
+      pub number_polar : {z : Option Real} {r : Bool} → x ≡ true → z ≡ real 10 (k + 1) (drop (k + 1) t) → r ≡ is_real z → r ≡ numeric (parse_number joined)
       number_polar e g w = rw (polar_is, e) (rw g at w)
 
       pub number_first : x ≡ false → false ≡ numeric (parse_number joined)

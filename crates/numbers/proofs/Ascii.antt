@@ -1,4 +1,5 @@
 -- A text of ASCII has no bad sequence.
+use Rattle.std.proofs.Common.{None}
 use Prim.Native.Nat.{ℕ, suc, ◌+◌, ◌<◌}
 use mathlib.Core.Path.{◌≡◌, refl, sym, ap}
 use mathlib.Core.List.{List, [], ◌∷◌}
@@ -7,7 +8,6 @@ use native.Mathlib.Omega.{arith}
 use lib.ListN.{length}
 use Rattle.laws.specs.Texts.{span}
 use Rattle.laws.proofs.Places.{past}
-use Rattle.chars.specs.declared.Utf8.TheVariants as utf8
 use Rattle.chars.specs.Utf8.{ascii, sequences, first_bad}
 use Rattle.chars.proofs.Ascii.{ascii_yes, ascii_pass}
 
@@ -21,7 +21,7 @@ unfolding span
 ascii-span [] h = refl
 ascii-span (c ∷ s) h = rw (ascii_yes c h.0) (ap suc (ascii-span s h.1))
 
-pub ascii_good : (s : List ℕ) → Ascii s → first_bad s ≡ utf8.Good
+pub ascii_good : (s : List ℕ) → Ascii s → first_bad s ≡ None
 unfolding first_bad sequences
 ascii_good s h =
     let e = ascii-span s h in

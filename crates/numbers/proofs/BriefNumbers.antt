@@ -1,28 +1,25 @@
 -- Brief numbers, for both grammars: two plain reals with @ between them have no @ before it, and two with a sign between them and `i` at the end
 -- have no @ and no other sign; so the text is cut there, and each part is the real that it is by itself.
+use Rattle.std.proofs.Common.{Option, Some}
 use Rattle.numbers.specs.declared.Real.{Real}
-use Rattle.numbers.specs.declared.Real.TheVariants.{Integer}
 use Rattle.numbers.specs.declared.Parts.{Parts}
-use Rattle.numbers.specs.declared.Parts.TheVariants.{Just, Complex, Polar}
-use Rattle.numbers.specs.declared.MaybeReal.{MaybeReal}
-use Rattle.numbers.specs.declared.MaybeReal.TheVariants.{AReal, NoReal}
-use Rattle.numbers.specs.declared.MaybeParts.{MaybeParts}
-use Rattle.numbers.specs.declared.MaybeParts.TheVariants.{SomeParts, NoParts}
-use Rattle.numbers.specs.Brief.{plain_from, Briefly}
-use Rattle.numbers.specs.Grammar.{just_of, complex_of, polar_of, init, to_sign, starts_e, zero_real, zero_parts, prefix}
+use Rattle.numbers.specs.declared.Parts.TheVariants.{Complex, Polar}
+use Rattle.numbers.specs.Brief.{plain_from}
+use Rattle.numbers.specs.Grammar.{complex_of, polar_of, init, to_sign, prefix}
 use Rattle.numbers.specs.Plain.{plain}
 use Rattle.numbers.specs.Reals.{exponent_marker}
 use Rattle.numbers.specs.Reals as bought
 use Rattle.numbers.proofs.Ascii.{Ascii}
-use Rattle.numbers.proofs.Grammars.{Grammar, init_is, imaginary-real, pair_is, complex_polar, complex-rectangular}
+use Rattle.numbers.specs.Grammars.{Grammar}
+use Rattle.numbers.proofs.Grammars.{init_is, imaginary-real, pair_is, complex_polar, complex-rectangular}
 use Rattle.numbers.proofs.Judged.{prefix_none}
 use Rattle.numbers.proofs.Plain.{All, Numeral, all_map, Avoids, before_all, sign_all, plain_first, plain_some}
 use Rattle.numbers.proofs.PlainReals.{plain-told}
-use Rattle.laws.specs.Quoted.{code, codes}
+use Rattle.laws.specs.Quoted.{code}
 use Rattle.laws.specs.Texts.{span, before, same}
 use Rattle.laws.proofs.Choice.{by_bool, and_no, no_yes}
 use Rattle.laws.proofs.Places.{past, here}
-use Rattle.digits.specs.Digits.{sign, uinteger}
+use Rattle.digits.specs.Digits.{sign}
 use Prim.Native.Nat.{ℕ, zero, suc, ◌+◌, ◌-◌, ◌≤◌, ◌<◌}
 use mathlib.Core.Path.{◌≡◌, refl, sym, ap, ◌∙◌}
 use mathlib.Core.Bool.{Bool, true, false}
@@ -34,7 +31,7 @@ use lib.Dec.{eqb, ltb}
 use native.Mathlib.Omega.{arith}
 use native.Mathlib.Nat.{zero-add}
 use native.Mathlib.Numerals.{add-one}
-use borrow.Author.Tests.{eq-eqb, ne_eqb, eqb-true, lt-ltb, le-ltb, ltb-true, ltb-false}
+use borrow.Author.Tests.{eq-eqb, ne_eqb, eqb-true, ltb-true, ltb-false}
 
 -- ---- a text by its parts
 
@@ -197,29 +194,29 @@ module _ (t : List ℕ) (k : ℕ) (i : k < length t) (u : plain (take k t) ≡ t
 
 -- ---- the parts by a grammar whose reals are the same on plain texts
 
-module _ {ends_i : List ℕ → Bool} {real imaginary : ℕ → ℕ → List ℕ → MaybeReal} {alone_of : ℕ → ℕ → List ℕ → MaybeParts}
-    {pair_of : ℕ → ℕ → ℕ → List ℕ → MaybeParts} {rectangular complex : ℕ → ℕ → List ℕ → MaybeParts}
+module _ {ends_i : List ℕ → Bool} {real imaginary : ℕ → ℕ → List ℕ → (Option Real)} {alone_of : ℕ → ℕ → List ℕ → (Option Parts)}
+    {pair_of : ℕ → ℕ → ℕ → List ℕ → (Option Parts)} {rectangular complex : ℕ → ℕ → List ℕ → (Option Parts)}
     (G : Grammar ends_i real imaginary alone_of pair_of rectangular complex) (agree : (p : ℕ) (s : List ℕ) → plain s ≡ true → real 10 p s ≡ bought.real 10 p s) where
-  real_told : (p : ℕ) (s : List ℕ) (x : Real) → AReal x ≡ plain_from p s → AReal x ≡ real 10 p s
+  real_told : (p : ℕ) (s : List ℕ) (x : Real) → Some x ≡ plain_from p s → Some x ≡ real 10 p s
   real_told p s x e = let h = plain-told p s x e in h.1 ∙ sym (agree p s h.0)
 
-  module _ (t : List ℕ) (k : ℕ) (i : k < length t) (a b : Real) (x : AReal a ≡ plain_from 0 (drop 0 (take k t))) where
-    pub polar_parts : get_or t k 0 ≡ code "@" → AReal b ≡ plain_from (k + 1) (drop (k + 1) t) → SomeParts (Polar a b) ≡ complex 10 0 (drop 0 t)
+  module _ (t : List ℕ) (k : ℕ) (i : k < length t) (a b : Real) (x : Some a ≡ plain_from 0 (drop 0 (take k t))) where
+    pub polar_parts : get_or t k 0 ≡ code "@" → Some b ≡ plain_from (k + 1) (drop (k + 1) t) → Some (Polar a b) ≡ complex 10 0 (drop 0 t)
     unfolding polar_of
     polar_parts g y =
-        complex_polar G 10 t 0 k (at_first t k i (plain-told 0 (take k t) a x).0 g) (SomeParts (Polar a b)) (AReal a) (AReal b) i
+        complex_polar G 10 t 0 k (at_first t k i (plain-told 0 (take k t) a x).0 g) (Some (Polar a b)) (Some a) (Some b) i
         (real_told 0 (take k t) a x) (real_told (k + 1) (drop (k + 1) t) b y) refl
 
-    pub complex_parts : SignAt t k → get_or t (length t - 1) 0 ≡ code "i" → AReal b ≡ plain_from k (drop k (take (length t - 1) t)) → true ≡ ends_i (drop k t)
-        → ((r : MaybeParts) → r ≡ pair_of 10 0 (k - 0) (drop 0 t) → r ≡ rectangular 10 0 (drop 0 t)) → SomeParts (Complex a b) ≡ complex 10 0 (drop 0 t)
+    pub complex_parts : SignAt t k → get_or t (length t - 1) 0 ≡ code "i" → Some b ≡ plain_from k (drop k (take (length t - 1) t)) → true ≡ ends_i (drop k t)
+        → ((r : Option Parts) → r ≡ pair_of 10 0 (k - 0) (drop 0 t) → r ≡ rectangular 10 0 (drop 0 t)) → Some (Complex a b) ≡ complex 10 0 (drop 0 t)
     unfolding complex_of sign
     complex_parts g z y n f =
         let u = (plain-told 0 (take k t) a x).0 in
         let part : List ℕ = drop k (take (length t - 1) t) in
         let w = (plain-told k part b y).0 in
         let e : 0 + before (code "@") t ≡ length t = zero-add (before (code "@") t) ∙ no_at t k i u g z w in
-        complex-rectangular G 10 t 0 (0 + before (code "@") t) refl (SomeParts (Complex a b)) (omega arith)
-        (f (SomeParts (Complex a b))
-        (pair_is G 10 t 0 k (omega arith) (SomeParts (Complex a b)) (AReal a) (AReal b) n (real_told 0 (take k t) a x)
-        (imaginary-real G 10 k part (plain_unsigned (code "+") part refl w) (AReal b) (plain_unsigned (code "-") part refl w) (real_told k part b y))
+        complex-rectangular G 10 t 0 (0 + before (code "@") t) refl (Some (Complex a b)) (omega arith)
+        (f (Some (Complex a b))
+        (pair_is G 10 t 0 k (omega arith) (Some (Complex a b)) (Some a) (Some b) n (real_told 0 (take k t) a x)
+        (imaginary-real G 10 k part (plain_unsigned (code "+") part refl w) (Some b) (plain_unsigned (code "-") part refl w) (real_told k part b y))
         refl))

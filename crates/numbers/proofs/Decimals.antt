@@ -1,16 +1,16 @@
 -- A decimal from a place on: its exponent, its suffix, its digits before and after the dot.
+use Rattle.std.proofs.Common.{None, Option, Some}
+use Rattle.numbers.specs.declared.Real.{Real}
 use Rattle.numbers.specs.declared.Exponent.{Exponent}
 use Rattle.numbers.specs.declared.Real.TheVariants.{Decimal}
 use Rattle.numbers.specs.declared.Suffix.{Suffix}
 use Rattle.numbers.specs.declared.Suffix.TheVariants.{Empty, Marked, Bad}
-use Rattle.numbers.specs.declared.MaybeReal.{MaybeReal}
-use Rattle.numbers.specs.declared.MaybeReal.TheVariants.{AReal, NoReal}
 use Rattle.numbers.specs.Reals.{exponent_marker, exponent, suffix, point_of, dotted, undotted, decimal}
 use Rattle.laws.specs.Quoted.{code}
 use Rattle.laws.specs.Texts.{starts}
 use Rattle.laws.proofs.Places.{past, here, cut_at, cut_after}
 use Rattle.digits.specs.declared.Span.{Span}
-use Rattle.digits.specs.Digits.{digits, sign, negative, uinteger}
+use Rattle.digits.specs.Digits.{digits, sign, uinteger}
 use Rattle.digits.proofs.Digits.{uinteger_in}
 use Prim.Native.Nat.{ℕ, ◌+◌, ◌-◌, ◌≤◌, ◌<◌}
 use mathlib.Core.Path.{◌≡◌, ap}
@@ -61,7 +61,7 @@ module _ (t : List ℕ) (p : ℕ) where
 -- a decimal of its parts
 module _ (neg : Bool) (w f : Span) (x : Suffix) where
   pub point_empty : x ≡ Empty
-      → AReal (Decimal (record {
+      → Some (Decimal (record {
         negative =
             neg;
         whole = w;
@@ -72,11 +72,11 @@ module _ (neg : Bool) (w f : Span) (x : Suffix) where
   point_empty e = rw e
 
   pub point_marked : (d : Exponent) → x ≡ Marked d
-      → AReal (Decimal (record { negative = neg; whole = w; fraction = f; exponent = d })) ≡ point_of neg w f x
+      → Some (Decimal (record { negative = neg; whole = w; fraction = f; exponent = d })) ≡ point_of neg w f x
   unfolding point_of
   point_marked d e = rw e
 
-  pub point_bad : x ≡ Bad → NoReal ≡ point_of neg w f x
+  pub point_bad : x ≡ Bad → None ≡ point_of neg w f x
   unfolding point_of
   point_bad e = rw e
 
@@ -85,31 +85,31 @@ upto a b h = omega arith
 
 -- without a dot, the digits from a to b
 module _ (neg : Bool) (a b : ℕ) (x : Suffix) where
-  pub undotted_empty : x ≡ Empty → NoReal ≡ undotted neg a (b - a) x
+  pub undotted_empty : x ≡ Empty → None ≡ undotted neg a (b - a) x
   unfolding undotted
   undotted_empty e = rw e
 
-  pub undotted_bad : x ≡ Bad → NoReal ≡ undotted neg a (b - a) x
+  pub undotted_bad : x ≡ Bad → None ≡ undotted neg a (b - a) x
   unfolding undotted
   undotted_bad e = rw e
 
   module _ (d : Exponent) (e : x ≡ Marked d) where
-    pub undotted_none : a ≡ b → NoReal ≡ undotted neg a (b - a) x
+    pub undotted_none : a ≡ b → None ≡ undotted neg a (b - a) x
     unfolding undotted
     undotted_none h = simp (e, eq-eqb (b - a) 0 (omega arith))
 
-    pub undotted_some : (r : MaybeReal) → (a ≡ b → ⊥) → a ≤ b → r ≡ point_of neg (record { start = a; end = b }) (record { start = b; end = b }) x
+    pub undotted_some : (r : Option Real) → (a ≡ b → ⊥) → a ≤ b → r ≡ point_of neg (record { start = a; end = b }) (record { start = b; end = b }) x
         → r ≡ undotted neg a (b - a) x
     unfolding undotted
     undotted_some r k h z = simp (e, ne_eqb (b - a) 0 (λ q. k (omega arith)), upto a b h) (rw e at z)
 
 -- with a dot before q, the digits from a to b before it and from q to e after it
 module _ (neg : Bool) (t : List ℕ) (a b q e : ℕ) (l : a ≤ b) (h : e ≡ q + digits 10 (drop q t)) where
-  pub dotted_none : a ≡ b → q ≡ e → NoReal ≡ dotted neg a (b - a) q (drop q t)
+  pub dotted_none : a ≡ b → q ≡ e → None ≡ dotted neg a (b - a) q (drop q t)
   unfolding dotted
   dotted_none f g = simp (eq-eqb (b - a + digits 10 (drop q t)) 0 (omega arith))
 
-  module _ (r : MaybeReal) (x : Suffix) (i : x ≡ suffix e (drop e t)) (z : r ≡ point_of neg (record {
+  module _ (r : Option Real) (x : Suffix) (i : x ≡ suffix e (drop e t)) (z : r ≡ point_of neg (record {
     start =
         a;
     end = b;
@@ -124,7 +124,7 @@ module _ (neg : Bool) (t : List ℕ) (a b q e : ℕ) (l : a ≤ b) (h : e ≡ q 
     pub dotted_whole : (a ≡ b → ⊥) → r ≡ dotted neg a (b - a) q (drop q t)
     dotted_whole n = dotted_some (λ g. n (omega arith))
 
-module _ (neg : Bool) (t : List ℕ) (p a : ℕ) (e : a ≡ p + digits 10 (drop p t)) (r : MaybeReal) where
+module _ (neg : Bool) (t : List ℕ) (p a : ℕ) (e : a ≡ p + digits 10 (drop p t)) (r : Option Real) where
   pub decimal_dot : true ≡ starts (code ".") (drop a t) → r ≡ dotted neg p (a - p) (a + 1) (drop (a + 1) t) → r ≡ decimal neg p (drop p t)
   unfolding decimal
   decimal_dot u z =

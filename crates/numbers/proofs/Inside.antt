@@ -1,31 +1,24 @@
 -- The digit places of a number lie in its text: each production gives places from the start of its part to the part's end.
+use Rattle.numbers.specs.declared.Real.{Real}
+use Rattle.digits.specs.declared.Int.{Int}
 use Rattle.numbers.specs.declared.Point.{Point}
 use Rattle.numbers.specs.declared.Real.TheVariants.{Integer, Rational, Decimal, PosInf, NegInf, PosNan, NegNan, ImpliedZero, ImpliedOne}
-use Rattle.numbers.specs.declared.MaybePoint.{MaybePoint}
-use Rattle.numbers.specs.declared.MaybePoint.TheVariants.{APoint, NoPoint}
 use Rattle.numbers.specs.declared.Parts.{Parts}
-use Rattle.numbers.specs.declared.Parsed.TheVariants.{Is, ZeroDenominator}
+use Rattle.numbers.specs.declared.ParseError.TheVariants.{ZeroDenominator}
 use Rattle.numbers.specs.declared.Suffix.{Suffix}
 use Rattle.numbers.specs.declared.Suffix.TheVariants.{Empty, Marked, Bad}
-use Rattle.numbers.specs.declared.MaybeReal.{MaybeReal}
-use Rattle.numbers.specs.declared.MaybeReal.TheVariants.{AReal, NoReal}
-use Rattle.numbers.specs.declared.MaybeParts.{MaybeParts}
-use Rattle.numbers.specs.declared.MaybeParts.TheVariants.{SomeParts, NoParts}
 use Rattle.numbers.specs.Grammar.{just_of, complex_of, polar_of, ends_i, init, imaginary, alone_of, pair_of, to_sign, cut, rectangular, complex, zero_parts, judged, prefix, parse_number}
 use Rattle.numbers.specs.Inside.{InSpan, InInt, InPoint, InReal, InParts}
 use Rattle.numbers.specs.Reals.{exponent_marker, exponent, suffix, point_of, dotted, undotted, decimal, point_in, one_decimal, infnan}
 use Rattle.numbers.specs.Reals.{integral_of, rational_of, denominator, exact, or_else, ureal, real}
 use Rattle.numbers.proofs.Judged.{prefix_short}
-use Rattle.std.specs.Prelude.{if◌then◌else◌}
+use Rattle.std.specs.Prelude.{if◌then◌else◌, None, Option, Some, Ok, Err}
 use Rattle.laws.specs.Quoted.{codes, code}
 use Rattle.laws.specs.Texts.{before, starts, same}
 use Rattle.laws.proofs.Choice.{by_bool, if_all, if_is, impossible}
 use Rattle.laws.proofs.Compared.{starts_in}
 use Rattle.laws.proofs.Runs.{span_le}
-use Rattle.chars.specs.Machine.{start}
 use Rattle.digits.specs.declared.Span.{Span}
-use Rattle.digits.specs.declared.MaybeInt.{MaybeInt}
-use Rattle.digits.specs.declared.MaybeInt.TheVariants.{AnInt, NoInt}
 use Rattle.digits.specs.Digits.{digit_of, digits, sign, negative, uinteger, value, top, span_at, whole_of, integer}
 use Prim.Native.Nat.{ℕ, ◌+◌, ◌-◌, ◌≤◌}
 use mathlib.Core.Path.{◌≡◌, sym}
@@ -39,26 +32,26 @@ use native.Mathlib.Nat.{le_refl}
 use borrow.Author.Tests.{ltb-true, ltb-false, eqb-false}
 
 module _ (n : ℕ) where
-  abbrev SomeInt : MaybeInt → Type 0
-  SomeInt (AnInt a) = InInt n a
-  SomeInt NoInt = Unit {0}
+  abbrev SomeInt : Option Int → Type 0
+  SomeInt (Some a) = InInt n a
+  SomeInt None = Unit {0}
 
   abbrev SomeSuffix : Suffix → Type 0
   SomeSuffix Empty = Unit {0}
   SomeSuffix (Marked e) = InSpan n e.digits
   SomeSuffix Bad = Unit {0}
 
-  abbrev SomeReal : MaybeReal → Type 0
-  SomeReal (AReal a) = InReal n a
-  SomeReal NoReal = Unit {0}
+  abbrev SomeReal : Option Real → Type 0
+  SomeReal (Some a) = InReal n a
+  SomeReal None = Unit {0}
 
-  abbrev SomePoint : MaybePoint → Type 0
-  SomePoint (APoint d) = InPoint n d
-  SomePoint NoPoint = Unit {0}
+  abbrev SomePoint : Option Point → Type 0
+  SomePoint (Some d) = InPoint n d
+  SomePoint None = Unit {0}
 
-  abbrev InMaybe : MaybeParts → Type 0
-  InMaybe (SomeParts p) = InParts n p
-  InMaybe NoParts = Unit {0}
+  abbrev InMaybe : Option Parts → Type 0
+  InMaybe (Some p) = InParts n p
+  InMaybe None = Unit {0}
 
 sign_le : (s : List ℕ) → sign s ≤ length s
 unfolding sign
@@ -131,18 +124,18 @@ module _ (n : ℕ) where
       (λ _. undotted_in neg p (digits 10 s) (suffix (p + digits 10 s) (drop (digits 10 s) s)) (omega arith)
       (suffix_in (p + digits 10 s) (drop (digits 10 s) s) (rest_in p (digits 10 s) s d h)))
 
-  told_in : (r : MaybeReal) → SomeReal n r → SomePoint n (point_in r)
+  told_in : (r : Option Real) → SomeReal n r → SomePoint n (point_in r)
   unfolding point_in
-  told_in (AReal (Integer a)) h = tt
-  told_in (AReal (Rational a b)) h = tt
-  told_in (AReal (Decimal d)) h = h
-  told_in (AReal PosInf) h = tt
-  told_in (AReal NegInf) h = tt
-  told_in (AReal PosNan) h = tt
-  told_in (AReal NegNan) h = tt
-  told_in (AReal ImpliedZero) h = tt
-  told_in (AReal (ImpliedOne neg)) h = tt
-  told_in NoReal h = tt
+  told_in (Some (Integer a)) h = tt
+  told_in (Some (Rational a b)) h = tt
+  told_in (Some (Decimal d)) h = h
+  told_in (Some PosInf) h = tt
+  told_in (Some NegInf) h = tt
+  told_in (Some PosNan) h = tt
+  told_in (Some NegNan) h = tt
+  told_in (Some ImpliedZero) h = tt
+  told_in (Some (ImpliedOne neg)) h = tt
+  told_in None h = tt
 
   -- a real
   infnan_in : (s : List ℕ) → SomeReal n (infnan s)
@@ -151,16 +144,16 @@ module _ (n : ℕ) where
       if_all (SomeReal n) (same s (codes "+inf.0")) tt (if_all (SomeReal n) (same s (codes "-inf.0")) tt
       (if_all (SomeReal n) (same s (codes "+nan.0")) tt (if_all (SomeReal n) (same s (codes "-nan.0")) tt tt)))
 
-  integral_in : (a : MaybeInt) → SomeInt n a → SomeReal n (integral_of a)
+  integral_in : (a : Option Int) → SomeInt n a → SomeReal n (integral_of a)
   unfolding integral_of
-  integral_in (AnInt a) h = h
-  integral_in NoInt h = tt
+  integral_in (Some a) h = h
+  integral_in None h = tt
 
-  rational_in : (a b : MaybeInt) → SomeInt n a → SomeInt n b → SomeReal n (rational_of a b)
+  rational_in : (a b : Option Int) → SomeInt n a → SomeInt n b → SomeReal n (rational_of a b)
   unfolding rational_of
-  rational_in (AnInt a) (AnInt b) h k = (h, k)
-  rational_in (AnInt a) NoInt h k = tt
-  rational_in NoInt b h k = tt
+  rational_in (Some a) (Some b) h k = (h, k)
+  rational_in (Some a) None h k = tt
+  rational_in None b h k = tt
 
   exact_in : (R : ℕ) (neg : Bool) (p : ℕ) (s : List ℕ) → p + length s ≤ n → SomeReal n (exact R neg p s)
   unfolding exact denominator
@@ -173,37 +166,37 @@ module _ (n : ℕ) where
       (integer_in R (p + k + 1) (drop (k + 1) s) (rw (length-drop (k + 1) s) (omega arith))))
       (λ _. integral_in (whole_of R neg p s) (whole_in R neg p s h))
 
-  else_in : (a b : MaybeReal) → SomeReal n a → SomeReal n b → SomeReal n (or_else a b)
+  else_in : (a b : Option Real) → SomeReal n a → SomeReal n b → SomeReal n (or_else a b)
   unfolding or_else
-  else_in (AReal a) b h k = h
-  else_in NoReal b h k = k
+  else_in (Some a) b h k = h
+  else_in None b h k = k
 
   real_in : (R p : ℕ) (s : List ℕ) → p + length s ≤ n → SomeReal n (real R p s)
   unfolding real ureal
   real_in R p s h =
       let l = rest_in p (sign s) s (sign_le s) h in
       else_in (infnan s) (ureal R (negative s) (p + sign s) (drop (sign s) s)) (infnan_in s)
-      (else_in (if eqb R 10 then decimal (negative s) (p + sign s) (drop (sign s) s) else NoReal) (exact R (negative s) (p + sign s) (drop (sign s) s))
+      (else_in (if eqb R 10 then decimal (negative s) (p + sign s) (drop (sign s) s) else None) (exact R (negative s) (p + sign s) (drop (sign s) s))
       (if_all (SomeReal n) (eqb R 10) (decimal_in (negative s) (p + sign s) (drop (sign s) s) l) tt)
       (exact_in R (negative s) (p + sign s) (drop (sign s) s) l))
 
   -- a number's parts
-  just_in : (a : MaybeReal) → SomeReal n a → InMaybe n (just_of a)
+  just_in : (a : Option Real) → SomeReal n a → InMaybe n (just_of a)
   unfolding just_of
-  just_in (AReal a) h = h
-  just_in NoReal h = tt
+  just_in (Some a) h = h
+  just_in None h = tt
 
-  complex_of_in : (a b : MaybeReal) → SomeReal n a → SomeReal n b → InMaybe n (complex_of a b)
+  complex_of_in : (a b : Option Real) → SomeReal n a → SomeReal n b → InMaybe n (complex_of a b)
   unfolding complex_of
-  complex_of_in (AReal a) (AReal b) h k = (h, k)
-  complex_of_in (AReal a) NoReal h k = tt
-  complex_of_in NoReal b h k = tt
+  complex_of_in (Some a) (Some b) h k = (h, k)
+  complex_of_in (Some a) None h k = tt
+  complex_of_in None b h k = tt
 
-  polar_of_in : (a b : MaybeReal) → SomeReal n a → SomeReal n b → InMaybe n (polar_of a b)
+  polar_of_in : (a b : Option Real) → SomeReal n a → SomeReal n b → InMaybe n (polar_of a b)
   unfolding polar_of
-  polar_of_in (AReal a) (AReal b) h k = (h, k)
-  polar_of_in (AReal a) NoReal h k = tt
-  polar_of_in NoReal b h k = tt
+  polar_of_in (Some a) (Some b) h k = (h, k)
+  polar_of_in (Some a) None h k = tt
+  polar_of_in None b h k = tt
 
   imaginary_in : (R p : ℕ) (s : List ℕ) → p + length s ≤ n → SomeReal n (imaginary R p s)
   unfolding imaginary
@@ -215,7 +208,7 @@ module _ (n : ℕ) where
   alone_in R p s h =
       if_all (InMaybe n) (ends_i s)
       (if_all (InMaybe n) (eqb (sign s) 0) tt
-      (complex_of_in (AReal ImpliedZero) (imaginary R p (init s)) tt (imaginary_in R p (init s) (first_in p (length s - 1) s (omega arith) h))))
+      (complex_of_in (Some ImpliedZero) (imaginary R p (init s)) tt (imaginary_in R p (init s) (first_in p (length s - 1) s (omega arith) h))))
       (just_in (real R p s) (real_in R p s h))
 
   pair_in : (R p k : ℕ) (s : List ℕ) → k ≤ length s → p + length s ≤ n → InMaybe n (pair_of R p k s)
@@ -246,20 +239,20 @@ module _ (n : ℕ) where
       (real_in R (p + k + 1) (drop (k + 1) s) (rw (length-drop (k + 1) s) (omega arith))))
       (λ _. rectangular_in R p s h)
 
-  judged_in : (m : MaybeParts) (p : Parts) → InMaybe n m → judged m ≡ Is p → InParts n p
+  judged_in : (m : Option Parts) (p : Parts) → InMaybe n m → judged m ≡ Ok p → InParts n p
   unfolding judged
-  judged_in NoParts p h e = impossible cc
-  judged_in (SomeParts q) p h e =
+  judged_in None p h e = impossible cc
+  judged_in (Some q) p h e =
       by_bool (zero_parts q)
-      (λ z. let f : judged (SomeParts q) ≡ ZeroDenominator = simp z in impossible cc)
-      (λ z. let f : judged (SomeParts q) ≡ Is q = simp z in (let g : q ≡ p = cc in rw g at h))
+      (λ z. let f : judged (Some q) ≡ Err ZeroDenominator = simp z in impossible cc)
+      (λ z. let f : judged (Some q) ≡ Ok q = simp z in (let g : q ≡ p = cc in rw g at h))
 
 -- the places of a decimal lie in its part
-pub decimal_inside : (neg : Bool) (p : ℕ) (s : List ℕ) (d : Point) → decimal neg p s ≡ AReal (Decimal d) → InPoint (p + length s) d
+pub decimal_inside : (neg : Bool) (p : ℕ) (s : List ℕ) (d : Point) → decimal neg p s ≡ Some (Decimal d) → InPoint (p + length s) d
 decimal_inside neg p s d e = rw e at (decimal_in (p + length s) neg p s (le_refl (p + length s)))
 
 -- the places of a text that is one decimal lie in the text
-pub one_decimal_inside : (s : List ℕ) (d : Point) → one_decimal s ≡ APoint d → InPoint (length s) d
+pub one_decimal_inside : (s : List ℕ) (d : Point) → one_decimal s ≡ Some d → InPoint (length s) d
 unfolding one_decimal
 one_decimal_inside s d e =
     rw e at (told_in (length s) (decimal (negative s) (sign s) (drop (sign s) s))
@@ -273,7 +266,7 @@ prefix_in s h =
     (λ e. let l = ltb-false (length s) 2 e in rw (length-drop 2 s) (omega arith))
 
 -- the places in a text's number lie in the text
-pub places_inside : (s : List ℕ) (p : Parts) → parse_number s ≡ Is p → InParts (length s) p
+pub places_inside : (s : List ℕ) (p : Parts) → parse_number s ≡ Ok p → InParts (length s) p
 unfolding parse_number
 places_inside s p e =
     by_bool (eqb (prefix s) 0)

@@ -20,3 +20,4 @@ pub mod BriefNumbers
 pub mod BriefAnswers
 pub mod AfterPlus
 pub mod Grammars
+pub mod Refused

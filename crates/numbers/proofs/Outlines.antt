@@ -1,24 +1,21 @@
 -- An outline's real. What it tells of the text it also tells of the part that ends where it ends; that part is digits and nothing else, or has a
 -- fraction, and so is one of the plainest numbers, with the outline's real.
+use Rattle.std.proofs.Common.{Some}
 use Rattle.numbers.specs.declared.Outline.{Outline}
 use Rattle.numbers.specs.declared.Real.TheVariants.{Integer, Rational}
-use Rattle.numbers.specs.declared.Suffix.TheVariants.{Empty}
-use Rattle.numbers.specs.declared.MaybeReal.TheVariants.{AReal}
 use Rattle.numbers.specs.Brief.{fraction_end, Outlines, sound, decimal_of, outlined, plain_from}
-use Rattle.numbers.specs.Plain.{fraction}
 use Rattle.numbers.specs.Reals.{point_of, rational_of, denominator}
 use Rattle.numbers.proofs.PlainPlaces.{fraction_run, ratio_run}
 use Rattle.numbers.proofs.PlainReals.{real_whole, real_fraction, real_ratio}
 use Rattle.numbers.proofs.Grammars.{exact_ratio}
 use Rattle.numbers.proofs.Plain.{before_slash}
-use Rattle.numbers.proofs.RealParts.{bought, denominator_is}
+use Rattle.numbers.specs.Grammars.{bought_reals}
+use Rattle.numbers.proofs.RealParts.{denominator_is}
 use Rattle.digits.specs.declared.Int.TheVariants.{Small}
-use Rattle.digits.specs.declared.MaybeInt.TheVariants.{AnInt}
-use Rattle.digits.specs.Digits.{digit_of, digits, sign, negative, uinteger, value, run_value, short, signed, top, whole_of}
+use Rattle.digits.specs.Digits.{digit_of, digits, sign, negative, value, run_value, short, signed, top, whole_of}
 use Rattle.digits.proofs.Digits.{uinteger_run, sign_none}
 use Rattle.digits.proofs.DecimalRuns.{short-top, short_whole}
 use Rattle.digits.proofs.Integers.{signed_fits, integer_is}
-use Rattle.laws.specs.Letters.{is_sign}
 use Rattle.laws.specs.Quoted.{code}
 use Rattle.laws.specs.Texts.{span, before, starts}
 use Rattle.laws.proofs.Choice.{by_bool, if_all, yes_no}
@@ -27,9 +24,8 @@ use Rattle.laws.proofs.Places.{cut_before, cut_at}
 use Rattle.laws.proofs.Runs.{span_le}
 use Prim.Native.Nat.{ℕ, zero, suc, ◌+◌, ◌-◌, ◌^◌, ◌≤◌, ◌<◌}
 use mathlib.Core.Path.{◌≡◌, refl, sym, ap, ◌∙◌}
-use mathlib.Core.Bool.{Bool, true, false, not, ◌||◌}
+use mathlib.Core.Bool.{Bool, true, false, not}
 use mathlib.Core.List.{List, [], ◌∷◌}
-use mathlib.Core.Logic.{◌⊎◌, inl, inr}
 use lib.ListN.{length, get_or, take, drop, length-drop}
 use lib.Seq.{drop-drop, take_all, length-take-le}
 use lib.IntN.{ℤ}
@@ -46,12 +42,6 @@ use borrow.Author.Tests.{eq-eqb, ne_eqb, eqb-true, eqb-false, ltb-true}
 pub is_told_lem : (b : Bool) → not b ≡ false → true ≡ b
 is_told_lem true h = refl
 is_told_lem false h = yes_no h
-
-pub is_sign_told : (c : ℕ) → true ≡ is_sign c → (c ≡ code "+") ⊎ (c ≡ code "-")
-unfolding is_sign
-is_sign_told c h = by_bool (eqb c (code "+"))
-    (λ e. inl (eqb-true c (code "+") e))
-    (λ e. inr (eqb-true c (code "-") (sym (simp e at h))))
 
 -- ---- where a fraction ends
 
@@ -188,18 +178,18 @@ module _ (t : List ℕ) (p : ℕ) (o : Outline) (h : Outlines t p o) (l : o.end 
       whole_end = e ∙ ends
 
       outline_whole : (z : ℤ) → z ≡ signed o.negative o.value
-          → AnInt (Small (to_z w64 (of_z w64 z))) ≡ whole_of 10 o.negative o.start (drop o.start cut)
+          → Some (Small (to_z w64 (of_z w64 z))) ≡ whole_of 10 o.negative o.start (drop o.start cut)
       outline_whole z k =
           let m = short-top o.negative short short o.value (omega arith) refl v in
           let u = sym (eq-eqb o.dot (length cut) whole_end) ∙ uinteger_run 10 cut o.start o.dot (omega (arith, whole_end)) runs in
           short_whole o.negative o.start cut o.value z u values m k
 
-      outline_integer : AReal (outlined o) ≡ plain_from p (drop p cut)
+      outline_integer : Some (outlined o) ≡ plain_from p (drop p cut)
       outline_integer =
-          ap AReal (sym (outlined_integer o (signed o.negative o.value) e v refl))
+          ap Some (sym (outlined_integer o (signed o.negative o.value) e v refl))
           ∙ real_whole cut p o.negative o.start o.dot minus signs runs whole_end some _ (outline_whole (signed o.negative o.value) refl)
 
-    outline_decimal : (o.dot ≡ o.end → ⊥) → o.dot + 1 < o.end → AReal (outlined o) ≡ plain_from p (drop p cut)
+    outline_decimal : (o.dot ≡ o.end → ⊥) → o.dot + 1 < o.end → Some (outlined o) ≡ plain_from p (drop p cut)
     unfolding point_of
     outline_decimal n some =
         let d : true ≡ starts (code ".") (drop o.dot t) = by_bool (starts (code ".") (drop o.dot t)) (λ e. sym e) (λ e. absurd (n (sym (h.3 ∙ fraction_end_none t o.dot (sym e))))) in
@@ -207,10 +197,10 @@ module _ (t : List ℕ) (p : ℕ) (o : Outline) (h : Outlines t p o) (l : o.end 
         let f : o.end ≡ o.dot + 1 + digits 10 (drop (o.dot + 1) cut) = e ∙ sym (ap (λ (n : ℕ). o.dot + 1 + n) (part_digits t (o.dot + 1) o.end (omega arith))) in
         let g : true ≡ starts (code ".") (drop o.dot cut) = d ∙ sym (part_starts t o.dot o.end (code ".") (omega arith)) in
         let x = sym (eq-eqb o.end (length cut) ends) ∙ fraction_run cut o.dot g o.end (omega (arith, ends)) f in
-        ap AReal (sym (outlined_decimal o n))
+        ap Some (sym (outlined_decimal o n))
         ∙ real_fraction cut p o.negative o.start o.dot minus signs runs (λ q. n (omega (arith, ends))) x _ (simp (← ends))
 
-  pub outline_real : p ≤ length t → o.dot ≤ o.end → true ≡ sound o → AReal (outlined o) ≡ plain_from p (drop p cut)
+  pub outline_real : p ≤ length t → o.dot ≤ o.end → true ≡ sound o → Some (outlined o) ≡ plain_from p (drop p cut)
   outline_real i run s =
       by_bool (eqb o.dot o.end)
       (λ b. let e = eqb-true o.dot o.end b in
@@ -221,11 +211,11 @@ module _ (t : List ℕ) (p : ℕ) (o : Outline) (h : Outlines t p o) (l : o.end 
       outline_decimal (omega (arith, h.1, h.2)) run n some)
 
   -- it ends with the text
-  pub outline_rest : p ≤ length t → o.dot ≤ o.end → true ≡ sound o → length t ≤ o.end → AReal (outlined o) ≡ plain_from p (drop p t)
+  pub outline_rest : p ≤ length t → o.dot ≤ o.end → true ≡ sound o → length t ≤ o.end → Some (outlined o) ≡ plain_from p (drop p t)
   outline_rest i run s j = outline_real i run s ∙ ap (λ (x : List ℕ). plain_from p (drop p x)) (take_all o.end t j)
 
   -- it ends at a place before
-  pub outline_to : (n : ℕ) → p ≤ length t → o.dot ≤ o.end → true ≡ sound o → o.end ≡ n → AReal (outlined o) ≡ plain_from p (drop p (take n t))
+  pub outline_to : (n : ℕ) → p ≤ length t → o.dot ≤ o.end → true ≡ sound o → o.end ≡ n → Some (outlined o) ≡ plain_from p (drop p (take n t))
   outline_to n i run s j = outline_real i run s ∙ ap (λ (m : ℕ). plain_from p (drop p (take m t))) j
 
 -- ---- an integer, a slash, and digits m behind it that do not begin with zero
@@ -252,7 +242,7 @@ module _ (t : List ℕ) (o : Outline) (h : Outlines t 0 o) (l : o.end < length t
     last : a ≡ length t
     last = omega (arith, run_in t (o.end + 1) (omega arith))
 
-    under : (y : ℤ) → y ≡ signed false m → AnInt (Small (to_z w64 (of_z w64 y))) ≡ denominator 10 (o.end + 1) (drop (o.end + 1) t)
+    under : (y : ℤ) → y ≡ signed false m → Some (Small (to_z w64 (of_z w64 y))) ≡ denominator 10 (o.end + 1) (drop (o.end + 1) t)
     under y j =
         let n = o.end + 1 in
         let u = sym (eq-eqb a (length t) last) ∙ uinteger_run 10 t n a i d in
@@ -261,10 +251,10 @@ module _ (t : List ℕ) (o : Outline) (h : Outlines t 0 o) (l : o.end < length t
         (integer_is 10 n t false n _ b (sign_none t n i (λ q. omega arith) (λ q. omega arith)) (short_whole false n t m y u w k j))
 
     pub ratio_told : (x y : ℤ) → x ≡ signed o.negative o.value → y ≡ signed false m
-        → AReal (Rational (Small (to_z w64 (of_z w64 x))) (Small (to_z w64 (of_z w64 y)))) ≡ plain_from 0 (drop 0 t)
+        → Some (Rational (Small (to_z w64 (of_z w64 x))) (Small (to_z w64 (of_z w64 y)))) ≡ plain_from 0 (drop 0 t)
     unfolding rational_of
     ratio_told x y b c =
         let r = sym (eq-eqb a (length t) last) ∙ ratio_run t o.end slash a i z d in
         real_ratio t 0 o.negative o.start o.end h.0 h.1 whole_run (λ q. omega arith) (omega (arith, digits_some)) r _
-        (exact_ratio bought 10 o.negative t o.start o.end slash_first _ _ _ l
+        (exact_ratio bought_reals 10 o.negative t o.start o.end slash_first _ _ _ l
         (outline_whole t 0 o h (omega arith) v (omega (arith, digits_some)) (omega arith) e digits_some x b) (under y c) refl)

@@ -1,19 +1,16 @@
 -- A text of one of the plainest shapes is a number: it has no @, no second sign and no `i`, so that it is one real, and that is an integer,
 -- a decimal, or a rational whose denominator does not begin with zero and so is not zero.
+use Rattle.numbers.specs.declared.Real.{Real}
+use Rattle.digits.specs.declared.Int.{Int}
 use Rattle.numbers.specs.declared.Parts.{Parts}
 use Rattle.numbers.specs.declared.Parts.TheVariants.{Just}
-use Rattle.numbers.specs.declared.Parsed.TheVariants.{Is}
-use Rattle.numbers.specs.declared.MaybeReal.{MaybeReal}
-use Rattle.numbers.specs.declared.MaybeReal.TheVariants.{AReal, NoReal}
 use Rattle.numbers.specs.Reals.{exponent_marker, suffix, point_of, dotted, undotted, decimal, infnan, integral_of, rational_of, denominator, exact, or_else, ureal, real}
 use Rattle.numbers.specs.Grammar.{just_of, ends_i, alone_of, to_sign, starts_e, rectangular, complex, zero_int, zero_real, zero_parts, judged, prefix, parse_number}
 use Rattle.numbers.specs.Plain.{fraction, ratio, unsigned_plain, plain}
-use Rattle.std.specs.Prelude.{if◌then◌else◌}
+use Rattle.std.specs.Prelude.{if◌then◌else◌, None, Option, Some, Ok}
 use Rattle.laws.specs.Quoted.{code, codes, within}
 use Rattle.laws.specs.Texts.{span, before, starts, same}
 use Rattle.laws.proofs.Choice.{by_bool, if_all, and_true, within_is, no_yes}
-use Rattle.digits.specs.declared.MaybeInt.{MaybeInt}
-use Rattle.digits.specs.declared.MaybeInt.TheVariants.{AnInt, NoInt}
 use Rattle.digits.specs.Digits.{digit_of, digits, sign, negative, uinteger, value, signed, top, whole_of, integer}
 use Rattle.digits.proofs.Digits.{decimal_digit, digit_decimal}
 use Rattle.digits.proofs.Integers.{value_ge}
@@ -195,23 +192,23 @@ one_real c s l u h =
 
 -- ---- the real, and no zero denominator
 
-abbrev pub Good : MaybeReal → Type 0
-Good (AReal r) = zero_real r ≡ false
-Good NoReal = ⊥
+abbrev pub Good : Option Real → Type 0
+Good (Some r) = zero_real r ≡ false
+Good None = ⊥
 
-abbrev Harmless : MaybeReal → Type 0
-Harmless (AReal r) = zero_real r ≡ false
-Harmless NoReal = Unit {0}
+abbrev Harmless : Option Real → Type 0
+Harmless (Some r) = zero_real r ≡ false
+Harmless None = Unit {0}
 
-or_good : (x y : MaybeReal) → Harmless x → Good y → Good (or_else x y)
+or_good : (x y : Option Real) → Harmless x → Good y → Good (or_else x y)
 unfolding or_else
-or_good (AReal r) y h g = h
-or_good NoReal y h g = g
+or_good (Some r) y h g = h
+or_good None y h g = g
 
-good_or : (x y : MaybeReal) → Good x → Good (or_else x y)
+good_or : (x y : Option Real) → Good x → Good (or_else x y)
 unfolding or_else
-good_or (AReal r) y h = h
-good_or NoReal y h = absurd h
+good_or (Some r) y h = h
+good_or None y h = absurd h
 
 infnan_harmless : (s : List ℕ) → Harmless (infnan s)
 unfolding infnan zero_real
@@ -227,19 +224,19 @@ dotted_good neg p w q s h =
 
 -- ---- a rational: its parts are integers, and the denominator is not zero
 
-abbrev Whole : MaybeInt → Type 0
-Whole (AnInt n) = Unit {0}
-Whole NoInt = ⊥
+abbrev Whole : Option Int → Type 0
+Whole (Some n) = Unit {0}
+Whole None = ⊥
 
-abbrev Nonzero : MaybeInt → Type 0
-Nonzero (AnInt n) = zero_int n ≡ false
-Nonzero NoInt = ⊥
+abbrev Nonzero : Option Int → Type 0
+Nonzero (Some n) = zero_int n ≡ false
+Nonzero None = ⊥
 
-rational_good : (n d : MaybeInt) → Whole n → Nonzero d → Good (rational_of n d)
+rational_good : (n d : Option Int) → Whole n → Nonzero d → Good (rational_of n d)
 unfolding rational_of zero_real
-rational_good (AnInt n) (AnInt d) h g = g
-rational_good (AnInt n) NoInt h g = absurd g
-rational_good NoInt d h g = absurd h
+rational_good (Some n) (Some d) h g = g
+rational_good (Some n) None h g = absurd g
+rational_good None d h g = absurd h
 
 whole_good : (neg : Bool) (p : ℕ) (s : List ℕ) → uinteger 10 s ≡ true → Whole (whole_of 10 neg p s)
 unfolding whole_of
@@ -279,7 +276,7 @@ denominator_good q (c ∷ s) h g =
 
 module _ (neg : Bool) (p : ℕ) (s : List ℕ) where
   -- digits alone are no decimal, for want of a dot
-  pub no_decimal_lem : uinteger 10 s ≡ true → decimal neg p s ≡ NoReal
+  pub no_decimal_lem : uinteger 10 s ≡ true → decimal neg p s ≡ None
   unfolding decimal starts suffix undotted
   no_decimal_lem h = simp (whole s h, drop-length s)
 
@@ -296,12 +293,12 @@ module _ (neg : Bool) (p : ℕ) (s : List ℕ) where
       rw a.0 (dotted_good neg p n (p + n + 1) (drop (n + 1) s) (ap (uinteger 10) (sym (drop-drop 1 n s)) ∙ a.1))
 
   -- digits and a slash are no decimal either
-  pub ratio-decimal : ratio (drop (digits 10 s) s) ≡ true → decimal neg p s ≡ NoReal
+  pub ratio-decimal : ratio (drop (digits 10 s) s) ≡ true → decimal neg p s ≡ None
   unfolding decimal starts suffix undotted exponent_marker
   ratio-decimal h = at_slash (drop (digits 10 s) s) (and_true (starts (code "/") (drop (digits 10 s) s)) _ h).0
     where
       at_slash : (r : List ℕ) → starts (code "/") r ≡ true
-          → (if starts (code ".") r then dotted neg p (digits 10 s) (p + digits 10 s + 1) (drop (digits 10 s + 1) s) else undotted neg p (digits 10 s) (suffix (p + digits 10 s) r)) ≡ NoReal
+          → (if starts (code ".") r then dotted neg p (digits 10 s) (p + digits 10 s + 1) (drop (digits 10 s + 1) s) else undotted neg p (digits 10 s) (suffix (p + digits 10 s) r)) ≡ None
       at_slash [] e = no_yes e
       at_slash (c ∷ r) e = rw (eqb-true c (code "/") e)
 
@@ -327,10 +324,10 @@ pub real_good : (p : ℕ) (s : List ℕ) → plain s ≡ true → Good (real 10 
 unfolding real plain
 real_good p s h = or_good (infnan s) (ureal 10 (negative s) (p + sign s) (drop (sign s) s)) (infnan_harmless s) (ureal_good (negative s) (p + sign s) (drop (sign s) s) h)
 
-good_number : (x : MaybeReal) → Good x → (p : Parts) × (judged (just_of x) ≡ Is p)
+good_number : (x : Option Real) → Good x → (p : Parts) × (judged (just_of x) ≡ Ok p)
 unfolding judged just_of zero_parts
-good_number (AReal r) h = (Just r, rw h)
-good_number NoReal h = absurd h
+good_number (Some r) h = (Just r, rw h)
+good_number None h = absurd h
 
 -- ---- the sign taken off
 
@@ -351,5 +348,5 @@ pub plain_one : (s : List ℕ) → plain s ≡ true → parse_number s ≡ judge
 plain_one [] h = no_yes (sym plain_some ∙ h)
 plain_one (c ∷ s) h = let n = plain_first c s h in one_real c s n.0 n.1 n.2
 
-pub plain_is : (s : List ℕ) → plain s ≡ true → (p : Parts) × (parse_number s ≡ Is p)
+pub plain_is : (s : List ℕ) → plain s ≡ true → (p : Parts) × (parse_number s ≡ Ok p)
 plain_is s h = let g = good_number (real 10 0 s) (real_good 0 s h) in (g.0, plain_one s h ∙ g.1)

@@ -1,10 +1,9 @@
 -- The real that one of the plainest numbers is, by its shape: it is no infinity, so that it is an integer, a decimal or a rational after its
 -- sign; and a text that is one of them is ASCII and has that real alone.
+use Rattle.std.proofs.Common.{Some, None, Option}
 use Rattle.numbers.specs.declared.Real.{Real}
 use Rattle.numbers.specs.declared.Real.TheVariants.{Integer}
 use Rattle.numbers.specs.declared.Suffix.TheVariants.{Empty}
-use Rattle.numbers.specs.declared.MaybeReal.{MaybeReal}
-use Rattle.numbers.specs.declared.MaybeReal.TheVariants.{AReal, NoReal}
 use Rattle.numbers.specs.AfterPlus.{is_real}
 use Rattle.numbers.specs.Brief.{plain_from}
 use Rattle.numbers.specs.Grammar.{zero_real}
@@ -12,7 +11,7 @@ use Rattle.numbers.specs.Plain.{fraction, ratio, plain}
 use Rattle.numbers.specs.Reals.{point_of, decimal, infnan, integral_of, exact, or_else, ureal, real}
 use Rattle.numbers.proofs.Ascii.{Ascii, ascii_good}
 use Rattle.numbers.proofs.Grammars.{real_signed}
-use Rattle.numbers.proofs.RealParts.{bought}
+use Rattle.numbers.specs.Grammars.{bought_reals}
 use Rattle.numbers.proofs.Decimals.{suffix_past, dotted_fraction, decimal_dot}
 use Rattle.numbers.proofs.Plain.{All, Numeral, some, whole, uinteger_avoids, before_all, Good, no_decimal_lem, decimal_good, ratio-decimal, real_good, plain_first, plain_some}
 use Rattle.numbers.proofs.PlainPlaces.{plain_digits_holds, plain-fraction, plain-ratio}
@@ -20,15 +19,13 @@ use Rattle.laws.specs.Quoted.{code}
 use Rattle.laws.specs.Texts.{starts, same}
 use Rattle.laws.proofs.Choice.{by_bool, and_true, and_no, no_yes, yes_no}
 use Rattle.laws.proofs.Places.{cut_at}
-use Rattle.chars.specs.declared.Utf8.TheVariants as utf8
 use Rattle.chars.specs.Utf8.{first_bad}
 use Rattle.digits.specs.declared.Int.{Int}
-use Rattle.digits.specs.declared.MaybeInt.TheVariants.{AnInt}
 use Rattle.digits.specs.Digits.{digits, sign, uinteger, whole_of}
 use Rattle.digits.proofs.Digits.{uinteger_run, uinteger_in}
 use Prim.Native.Nat.{ℕ, ◌+◌, ◌≤◌, ◌<◌}
 use mathlib.Core.Path.{◌≡◌, refl, sym, ap, ◌∙◌}
-use mathlib.Core.Bool.{Bool, true, false, ◌&&◌}
+use mathlib.Core.Bool.{Bool, true, false}
 use mathlib.Core.List.{List, [], ◌∷◌}
 use lib.ListN.{length, drop}
 use lib.Seq.{drop-drop}
@@ -38,7 +35,7 @@ use borrow.Author.Tests.{eq-eqb, ne_eqb, eqb-true, lt-ltb, le-ltb}
 
 -- ---- no infinity
 
-plain_finite : (s : List ℕ) → plain s ≡ true → infnan s ≡ NoReal
+plain_finite : (s : List ℕ) → plain s ≡ true → infnan s ≡ None
 unfolding infnan same
 plain_finite [] h = no_yes (sym plain_some ∙ h)
 plain_finite (c ∷ []) h = simp and_no
@@ -48,10 +45,10 @@ plain_finite (c ∷ d ∷ s) h =
 
 -- ---- after the sign
 
-pub first_good : (x y : MaybeReal) → Good x → or_else x y ≡ x
+pub first_good : (x y : Option Real) → Good x → or_else x y ≡ x
 unfolding or_else
-first_good (AReal r) y g = refl
-first_good NoReal y g = absurd g
+first_good (Some r) y g = refl
+first_good None y g = absurd g
 
 module _ (neg : Bool) (p : ℕ) (s : List ℕ) where
   ureal_whole : uinteger 10 s ≡ true → ureal 10 neg p s ≡ integral_of (whole_of 10 neg p s)
@@ -81,19 +78,19 @@ module _ (t : List ℕ) (q : ℕ) (neg : Bool) (p e : ℕ) (n : neg ≡ starts (
   after_sign : plain (drop q t) ≡ true → ureal 10 neg p (drop p t) ≡ plain_from q (drop q t)
   unfolding plain_from
   after_sign h =
-      real_signed bought 10 t q (infnan (drop q t)) refl (ureal 10 neg p (drop p t)) neg p (plain_finite (drop q t) h) n s refl ∙ simp h
+      real_signed bought_reals 10 t q (infnan (drop q t)) refl (ureal 10 neg p (drop p t)) neg p (plain_finite (drop q t) h) n s refl ∙ simp h
 
   run_in : p ≤ e
   run_in = omega arith
 
-  pub real_whole : e ≡ length t → p < e → (x : Int) → AnInt x ≡ whole_of 10 neg p (drop p t) → AReal (Integer x) ≡ plain_from q (drop q t)
+  pub real_whole : e ≡ length t → p < e → (x : Int) → Some x ≡ whole_of 10 neg p (drop p t) → Some (Integer x) ≡ plain_from q (drop q t)
   unfolding integral_of
   real_whole f l x h =
       let u = sym (eq-eqb e (length t) f) ∙ uinteger_run 10 t p e (omega arith) d in
       ap integral_of h ∙ sym (ureal_whole neg p (drop p t) (sym u)) ∙ after_sign (sym (plain_digits_holds t q p e s d f) ∙ lt-ltb p e l)
 
   module _ (k : e ≡ length t → ⊥) where
-    pub real_fraction : true ≡ fraction (drop e t) → (r : MaybeReal)
+    pub real_fraction : true ≡ fraction (drop e t) → (r : Option Real)
         → r ≡ point_of neg (record { start = p; end = e }) (record { start = e + 1; end = length t }) Empty → r ≡ plain_from q (drop q t)
     real_fraction h r z =
         let a = and_true (starts (code ".") (drop e t)) (uinteger 10 (drop 1 (drop e t))) (sym h) in
@@ -106,7 +103,7 @@ module _ (t : List ℕ) (q : ℕ) (neg : Bool) (p e : ℕ) (n : neg ≡ starts (
         ∙ sym (ureal-decimal neg p (drop p t) (ap fraction (sym (cut_at t p (digits 10 (drop p t)) e d)) ∙ sym h))
         ∙ after_sign (sym (plain-fraction t q p e s d k h))
 
-    pub real_ratio : p < e → true ≡ ratio (drop e t) → (r : MaybeReal) → r ≡ exact 10 neg p (drop p t) → r ≡ plain_from q (drop q t)
+    pub real_ratio : p < e → true ≡ ratio (drop e t) → (r : Option Real) → r ≡ exact 10 neg p (drop p t) → r ≡ plain_from q (drop q t)
     real_ratio l h r z =
         z ∙ sym (ureal-ratio neg p (drop p t) (ap ratio (sym (cut_at t p (digits 10 (drop p t)) e d)) ∙ sym h))
         ∙ after_sign (sym (plain-ratio t q p e s d k (slash_fraction (drop e t) h) true l h))
@@ -121,13 +118,13 @@ pub plain_ascii : (s : List ℕ) → plain s ≡ true → Ascii s
 plain_ascii [] h = tt
 plain_ascii (c ∷ s) h = let n = plain_first c s h in let u = n.1 in (omega arith, numerals_ascii s n.2)
 
-pub plain_good : (s : List ℕ) → plain s ≡ true → first_bad s ≡ utf8.Good
+pub plain_good : (s : List ℕ) → plain s ≡ true → first_bad s ≡ None
 plain_good s h = ascii_good s (plain_ascii s h)
 
 -- one that is told
-pub plain-told : (p : ℕ) (s : List ℕ) (x : Real) → AReal x ≡ plain_from p s → (plain s ≡ true) × (AReal x ≡ real 10 p s) × (zero_real x ≡ false)
+pub plain-told : (p : ℕ) (s : List ℕ) (x : Real) → Some x ≡ plain_from p s → (plain s ≡ true) × (Some x ≡ real 10 p s) × (zero_real x ≡ false)
 unfolding plain_from
 plain-told p s x e = by_bool (plain s)
-    (λ h. let r : AReal x ≡ real 10 p s = simp h at e in
+    (λ h. let r : Some x ≡ real 10 p s = simp h at e in
     let g : zero_real x ≡ false = rw (sym r) at (real_good p s h) in (h, r, g))
-    (λ h. let r : AReal x ≡ NoReal = simp h at e in yes_no (ap is_real r))
+    (λ h. let r : Some x ≡ None = simp h at e in yes_no (ap is_real r))

@@ -1,14 +1,13 @@
 -- An integer after a prefix: a sign and digits of the radix cut nothing and are no infinity, so that they are one real, an integer.
+use Rattle.numbers.specs.declared.Real.{Real}
 use Rattle.numbers.specs.declared.Real.TheVariants.{Integer}
-use Rattle.numbers.specs.declared.MaybeReal.{MaybeReal}
-use Rattle.numbers.specs.declared.MaybeReal.TheVariants.{AReal, NoReal}
 use Rattle.numbers.specs.Brief.{Prefixed}
 use Rattle.numbers.specs.Grammar.{just_of, complex, radix_mark, prefix}
-use Rattle.numbers.specs.Reals.{decimal, infnan, integral_of, exact, or_else, ureal, real}
+use Rattle.numbers.specs.Reals.{infnan, integral_of, exact, or_else, ureal, real}
 use Rattle.numbers.proofs.Ascii.{Ascii}
-use Rattle.numbers.proofs.Plain.{All, all_map, Calm, Avoids, before_all, no_decimal_lem, one_complex}
-use Rattle.std.specs.Prelude.{if◌then◌else◌}
-use Rattle.laws.specs.Quoted.{code, codes, within}
+use Rattle.numbers.proofs.Plain.{All, all_map, Calm, before_all, no_decimal_lem, one_complex}
+use Rattle.std.specs.Prelude.{None, Option, Some}
+use Rattle.laws.specs.Quoted.{code, within}
 use Rattle.laws.specs.Texts.{span, before, same}
 use Rattle.laws.proofs.Choice.{by_bool, and_no, no_yes}
 use Rattle.digits.specs.declared.Int.TheVariants.{Small}
@@ -21,9 +20,9 @@ use mir.Syntax.{w64}
 use mir.Val.{to_z, of_z}
 use Prim.Native.Nat.{ℕ, suc, ◌+◌, ◌≤◌, ◌<◌}
 use mathlib.Core.Path.{◌≡◌, refl, sym, ap, ◌∙◌}
-use mathlib.Core.Bool.{Bool, true, false, ◌||◌}
+use mathlib.Core.Bool.{Bool, true}
 use mathlib.Core.List.{List, [], ◌∷◌}
-use lib.ListN.{length, get_or, drop, length-drop}
+use lib.ListN.{length, drop, length-drop}
 use lib.Seq.{drop-drop}
 use lib.Dec.{eqb, ltb}
 use native.Mathlib.Omega.{arith}
@@ -111,7 +110,7 @@ kept R r c s h = by_bool (eqb c (code "+"))
     let m = hex_calm c x.0 in
     record { at = m.at; i = m.i; big = m.big; ascii = m.ascii; rest = all_map Hex Calm hex_calm s x.1 }))
 
-pub kept_finite : (c : ℕ) (s : List ℕ) → All Calm s → infnan (c ∷ s) ≡ NoReal
+pub kept_finite : (c : ℕ) (s : List ℕ) → All Calm s → infnan (c ∷ s) ≡ None
 unfolding infnan same
 kept_finite c [] h = simp and_no
 kept_finite c (d ∷ s) h = simp (ne_eqb d (code "i") h.0.i, ne_eqb d (code "n") h.0.n, and_no)
@@ -163,7 +162,7 @@ radix_complex R r (c ∷ s) h =
     one_complex R 2 c s k.at k.i k.rest
     ∙ ap just_of (simp (kept_finite c s k.rest, ureal_digits R r (drop (sign (c ∷ s)) (c ∷ s)) h (negative (c ∷ s)) (2 + sign (c ∷ s))))
 
-pub prefixed_complex : (t : List ℕ) (x : MaybeReal) → prefix t ≤ 16 → Prefixed t x → just_of x ≡ complex (prefix t) 2 (drop 2 t)
+pub prefixed_complex : (t : List ℕ) (x : Option Real) → prefix t ≤ 16 → Prefixed t x → just_of x ≡ complex (prefix t) 2 (drop 2 t)
 prefixed_complex t x r h =
     let d = drop-drop (sign (drop 2 t)) 2 t in
     sym (radix_complex (prefix t) r (drop 2 t) (ap (uinteger (prefix t)) d ∙ h.1) ∙ ap just_of (simp d (sym h.2)))
@@ -174,15 +173,15 @@ run_end_in R t p e h l = omega (arith, span_le (λ x. ltb (digit_of x) R) (drop 
 -- what the code finds: the radix R, the sign's end p and the digits' e, and their value m
 pub prefixed_told : (t : List ℕ) (R p : ℕ) (neg : Bool) (e m : ℕ) (z : ℤ) → R ≡ prefix t → (R ≡ 0 → ⊥) → neg ≡ negative (drop 2 t)
     → p ≡ 2 + sign (drop 2 t) → e ≡ p + digits R (drop p t) → p < length t → length t ≤ e → m ≡ value R 0 (drop p t) → m < top neg → z ≡ signed neg m
-    → Prefixed t (AReal (Integer (Small (to_z w64 (of_z w64 z)))))
+    → Prefixed t (Some (Integer (Small (to_z w64 (of_z w64 z)))))
 unfolding integral_of
 prefixed_told t R p neg e m z a n b c d i f v l s =
     let last : e ≡ length t = omega (arith, span_le (λ x. ltb (digit_of x) R) (drop p t), length-drop p t) in
     let u = sym (eq-eqb e (length t) last) ∙ uinteger_run R t p e i d in
     let w = whole_small R neg p t u m z (rw v (fit_fits (value R 0 (drop p t)) (omega (arith, top_le neg)))) l s in
-    let x : (0 < R) × (uinteger R (drop p t) ≡ true) × (AReal (Integer (Small (to_z w64 (of_z w64 z)))) ≡ integral_of (whole_of R neg p (drop p t)))
+    let x : (0 < R) × (uinteger R (drop p t) ≡ true) × (Some (Integer (Small (to_z w64 (of_z w64 z)))) ≡ integral_of (whole_of R neg p (drop p t)))
     = (positive n, sym u, ap integral_of w) in
-    rw (a, b, c) at x
+    simp (a, b, c) at x
   where
     positive : {k : ℕ} → (k ≡ 0 → ⊥) → 0 < k
     positive {k} h = by_bool (ltb 0 k) (λ q. ltb-true 0 k q) (λ q. absurd (h (omega (arith, ltb-false 0 k q))))

@@ -1,10 +1,10 @@
 -- "Zero denominator means all digits zero" (01): a denominator counts as zero exactly if each of its digits is `0`, however many they are.
+use Rattle.std.proofs.Common.{None, Some}
 use Rattle.numbers.specs.Grammar.{zero_int}
 use Rattle.numbers.specs.Reals.{denominator}
 use Rattle.laws.proofs.Choice.{by_bool, impossible}
 use Rattle.digits.specs.declared.Int.{Int}
 use Rattle.digits.specs.declared.Int.TheVariants.{Small, Big}
-use Rattle.digits.specs.declared.MaybeInt.TheVariants.{AnInt, NoInt}
 use Rattle.digits.specs.Digits.{sign, negative, uinteger, value, signed, top, span_at, whole_of, integer, zeros}
 use Rattle.digits.proofs.Zeros.{zeros_is}
 use Prim.Native.Nat.{ℕ, zero, suc, ◌+◌, ◌≤◌}
@@ -26,22 +26,22 @@ top_pos : (neg : Bool) → 1 ≤ top neg
 top_pos true = lit≤ tt
 top_pos false = lit≤ tt
 
-zero_whole : (R : ℕ) (neg : Bool) (p : ℕ) (s : List ℕ) (d : Int) → 1 ≤ R → whole_of R neg p s ≡ AnInt d → zero_int d ≡ zeros s
+zero_whole : (R : ℕ) (neg : Bool) (p : ℕ) (s : List ℕ) (d : Int) → 1 ≤ R → whole_of R neg p s ≡ Some d → zero_int d ≡ zeros s
 unfolding whole_of zero_int
 zero_whole R neg p s d r e =
     by_bool (uinteger R s)
     (λ u. by_bool (ltb (value R 0 s) (top neg))
-    (λ l. let f : whole_of R neg p s ≡ AnInt (Small (signed neg (value R 0 s))) = simp (u, l) in
+    (λ l. let f : whole_of R neg p s ≡ Some (Small (signed neg (value R 0 s))) = simp (u, l) in
     let g : d ≡ Small (signed neg (value R 0 s)) = cc in
     rw g (zero_signed neg (value R 0 s) ∙ zeros_is R s r))
-    (λ l. let f : whole_of R neg p s ≡ AnInt (Big neg (span_at p (length s))) = simp (u, l) in
+    (λ l. let f : whole_of R neg p s ≡ Some (Big neg (span_at p (length s))) = simp (u, l) in
     let g : d ≡ Big neg (span_at p (length s)) = cc in
     rw g (zero_large (ltb-false _ _ l))))
-    (λ u. let f : whole_of R neg p s ≡ NoInt = simp u in impossible cc)
+    (λ u. let f : whole_of R neg p s ≡ None = simp u in impossible cc)
   where
     zero_large : top neg ≤ value R 0 s → zero_int (Big neg (span_at p (length s))) ≡ zeros s
     zero_large l = sym (ne_eqb (value R 0 s) 0 (λ z. omega (arith, top_pos neg))) ∙ zeros_is R s r
 
-pub zero_denominator_case : (R p : ℕ) (s : List ℕ) (d : Int) → 1 ≤ R → denominator R p s ≡ AnInt d → zero_int d ≡ zeros (drop (sign s) s)
+pub zero_denominator_case : (R p : ℕ) (s : List ℕ) (d : Int) → 1 ≤ R → denominator R p s ≡ Some d → zero_int d ≡ zeros (drop (sign s) s)
 unfolding denominator integer
 zero_denominator_case R p s d r e = zero_whole R (negative s) (p + sign s) (drop (sign s) s) d r e

@@ -1,6 +1,7 @@
 -- Brief numbers: what the code finds of one of the plainest reals in one walk, and when it tells a text's parts by that alone. Means of proof:
 -- Grammar says what a number's parts are.
-use Rattle.std.specs.Prelude.{ℕ, ◌+◌, ◌-◌, ◌^◌, ◌≤◌, ◌<◌, ◌≡◌, Bool, true, false, List, ◌⊎◌, length, get_or, take, drop, ltb, eqb, if◌then◌else◌}
+use Rattle.numbers.specs.declared.Parts.{Parts}
+use Rattle.std.specs.Prelude.{ℕ, ◌+◌, ◌-◌, ◌^◌, ◌≤◌, ◌<◌, ◌≡◌, Bool, true, false, List, ◌⊎◌, length, get_or, take, drop, ltb, eqb, if◌then◌else◌, None, Option, Some}
 use Rattle.laws.specs.Quoted.{code}
 use Rattle.laws.specs.Texts.{starts}
 use Rattle.digits.specs.declared.Int.TheVariants.{Small}
@@ -9,10 +10,6 @@ use Rattle.numbers.specs.declared.Outline.{Outline}
 use Rattle.numbers.specs.declared.Real.{Real}
 use Rattle.numbers.specs.declared.Real.TheVariants.{Integer, Decimal}
 use Rattle.numbers.specs.declared.Parts.TheVariants.{Just, Complex, Polar}
-use Rattle.numbers.specs.declared.MaybeReal.{MaybeReal}
-use Rattle.numbers.specs.declared.MaybeReal.TheVariants.{AReal, NoReal}
-use Rattle.numbers.specs.declared.MaybeParts.{MaybeParts}
-use Rattle.numbers.specs.declared.MaybeParts.TheVariants.{SomeParts, NoParts}
 use Rattle.numbers.specs.Plain.{plain}
 use Rattle.numbers.specs.Reals.{integral_of, real}
 use Rattle.numbers.specs.Grammar.{prefix}
@@ -48,8 +45,8 @@ unfoldable pub outlined : Outline → Real
 outlined o = if eqb o.dot o.end then Integer (Small (signed o.negative o.value)) else decimal_of o
 
 -- the real that one of the plainest numbers is, from the place p on
-unfoldable pub plain_from : ℕ → List ℕ → MaybeReal
-plain_from p s = if plain s then real 10 p s else NoReal
+unfoldable pub plain_from : ℕ → List ℕ → Option Real
+plain_from p s = if plain s then real 10 p s else None
 
 -- a text that begins with a real and goes on
 abbrev pub Begins : List ℕ → Outline → Type 0
@@ -57,22 +54,22 @@ Begins t o =
     (length t ≤ short) × Outlines t 0 o × (o.value < 10 ^ short) × (o.dot ≤ o.end) × (true ≡ sound o) × (o.end < length t)
 
 -- the real of t is the integer behind a prefix: its sign, and digits of the radix and nothing else
-abbrev pub Prefixed : List ℕ → MaybeReal → Type 0
+abbrev pub Prefixed : List ℕ → Option Real → Type 0
 Prefixed t r =
     (0 < prefix t)
     × (uinteger (prefix t) (drop (2 + sign (drop 2 t)) t) ≡ true)
     × (r ≡ integral_of (whole_of (prefix t) (negative (drop 2 t)) (2 + sign (drop 2 t)) (drop (2 + sign (drop 2 t)) t)))
 
 -- the parts of t, where they are told: one of the plainest reals or an integer behind a prefix, or two plain reals with @ at a place k or the second's sign there and `i` at the end
-abbrev pub Briefly : List ℕ → MaybeParts → Type 0
-Briefly t (SomeParts (Just a)) = (AReal a ≡ plain_from 0 t) ⊎ Prefixed t (AReal a)
-Briefly t (SomeParts (Polar a b)) =
-    (k : ℕ) × (k < length t) × (get_or t k 0 ≡ code "@") × (AReal a ≡ plain_from 0 (drop 0 (take k t))) × (AReal b ≡ plain_from (k + 1) (drop (k + 1) t))
-Briefly t (SomeParts (Complex a b)) =
+abbrev pub Briefly : List ℕ → Option Parts → Type 0
+Briefly t (Some (Just a)) = (Some a ≡ plain_from 0 t) ⊎ Prefixed t (Some a)
+Briefly t (Some (Polar a b)) =
+    (k : ℕ) × (k < length t) × (get_or t k 0 ≡ code "@") × (Some a ≡ plain_from 0 (drop 0 (take k t))) × (Some b ≡ plain_from (k + 1) (drop (k + 1) t))
+Briefly t (Some (Complex a b)) =
     (k : ℕ)
     × (k < length t)
     × ((get_or t k 0 ≡ code "+") ⊎ (get_or t k 0 ≡ code "-"))
     × (get_or t (length t - 1) 0 ≡ code "i")
-    × (AReal a ≡ plain_from 0 (drop 0 (take k t)))
-    × (AReal b ≡ plain_from k (drop k (take (length t - 1) t)))
-Briefly t NoParts = Unit {0}
+    × (Some a ≡ plain_from 0 (drop 0 (take k t)))
+    × (Some b ≡ plain_from k (drop k (take (length t - 1) t)))
+Briefly t None = Unit {0}

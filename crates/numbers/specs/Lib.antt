@@ -1,5 +1,6 @@
 pub mod Reals
 pub mod Grammar
+pub mod Grammars
 pub mod Plain
 pub mod Brief
 pub mod Inside

@@ -1,12 +1,9 @@
 -- The plainest numbers: `14`, `-14`, `14.7` and `1/2`. Each is a number (proofs/Plain, plain-is), so a text of this shape need not be
 -- taken apart to know that it is one.
-use Rattle.std.specs.Prelude.{ℕ, ◌-◌, Bool, ◌&&◌, ◌||◌, List, length, get_or, drop, ltb, leb, if◌then◌else◌}
+use Rattle.std.specs.Prelude.{ℕ, Bool, ◌&&◌, ◌||◌, List, get_or, drop, ltb}
 use Rattle.laws.specs.Quoted.{code}
 use Rattle.laws.specs.Texts.{starts}
-use Rattle.digits.specs.Digits.{digits, sign, uinteger, short}
-use Rattle.numbers.specs.declared.MaybeReal.{MaybeReal}
-use Rattle.numbers.specs.declared.MaybeReal.TheVariants.{NoReal}
-use Rattle.numbers.specs.Reals.{real}
+use Rattle.digits.specs.Digits.{digits, sign, uinteger}
 
 -- a dot, and digits after it
 abbrev pub fraction : List ℕ → Bool

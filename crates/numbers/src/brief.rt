@@ -2,13 +2,12 @@
 // whose digits have a value within signed 64 bits whatever they are. Each byte is read once, and no part is handed on but as numbers.
 // Internal: for both readers.
 ghost use Rattle.std.specs.Prelude.{◌≡◌, ◌⊎◌, ◌^◌, ◌≤◌, ◌<◌, length, get_or, drop};
-ghost use Rattle.laws.specs.Letters.{is_sign};
 ghost use Rattle.laws.specs.Quoted.{code};
 ghost use Rattle.digits.specs.Digits.{short};
 ghost use Rattle.numbers.specs.Brief.{fraction_end, Outlines, sound, outlined, Begins, Briefly};
 
-use crate::{Exponent, MaybeParts, NO_RADIX, Outline, PREFIX, Parts, Point, Real, prefix};
-use digits::{Int, SHORT, SHORT_IN_ANY, Span};
+use crate::{Exponent, NO_RADIX, Outline, PREFIX, Parts, Point, Real, prefix};
+use digits::{Int, SHORT, SHORT_IN_ANY, Span, is_sign};
 
 // Where the fraction from a place on ends, if a dot is there.
 fn fraction_end(t: &[u8], from: usize) -> usize
@@ -78,102 +77,90 @@ fn real_of(o: Outline) -> Real
     })
 }
 
-// Whether a byte is a sign.
-fn is_sign(c: u8) -> bool
-    ensures { result ≡ is_sign c }
-{
-    if c == b'+' {
-        return true;
-    }
-    c == b'-'
-}
-
 // The parts of a text that begins with a real and `@`.
-fn brief_polar(t: &[u8], one: Outline) -> MaybeParts
+fn brief_polar(t: &[u8], one: Outline) -> Option<Parts>
     requires { Begins t.now one × (get_or t.now one.end 0 ≡ code "@") }
     ensures { Briefly t.now result }
 {
     let two = outline_at(t, one.end + 1);
     if !is_sound(two) {
-        return MaybeParts::NoParts;
+        return None;
     }
     if two.end < t.len() {
-        return MaybeParts::NoParts;
+        return None;
     }
-    MaybeParts::SomeParts(Parts::Polar(real_of(one), real_of(two)))
+    Some(Parts::Polar(real_of(one), real_of(two)))
 }
 
 // The parts of a text that begins with a real and a sign.
-fn brief_complex(t: &[u8], one: Outline) -> MaybeParts
+fn brief_complex(t: &[u8], one: Outline) -> Option<Parts>
     requires { Begins t.now one × ((get_or t.now one.end 0 ≡ code "+") ⊎ (get_or t.now one.end 0 ≡ code "-")) }
     ensures { Briefly t.now result }
 {
     let two = outline_at(t, one.end);
     if !is_sound(two) {
-        return MaybeParts::NoParts;
+        return None;
     }
     let end = two.end;
     if end + 1 != t.len() {
-        return MaybeParts::NoParts;
+        return None;
     }
     if t[end] != b'i' {
-        return MaybeParts::NoParts;
+        return None;
     }
-    MaybeParts::SomeParts(Parts::Complex(real_of(one), real_of(two)))
+    Some(Parts::Complex(real_of(one), real_of(two)))
 }
 
 // The parts of a text that begins with an integer and a slash. A denominator that begins with zero may be zero, and none is told then.
-fn brief_ratio(t: &[u8], one: Outline) -> MaybeParts
+fn brief_ratio(t: &[u8], one: Outline) -> Option<Parts>
     requires { Begins t.now one × (one.dot ≡ one.end) × (get_or t.now one.end 0 ≡ code "/") }
     ensures { Briefly t.now result }
 {
     let start = one.end + 1;
     if t.len() <= start {
-        return MaybeParts::NoParts;
+        return None;
     }
     if t[start] <= b'0' {
-        return MaybeParts::NoParts;
+        return None;
     }
     let run = digits::decimal_run(t, start, 0);
     if run.end < t.len() {
-        return MaybeParts::NoParts;
+        return None;
     }
     let over = Int::Small(digits::small(one.negative, one.value));
     let under = Int::Small(digits::small(false, run.value));
-    MaybeParts::SomeParts(Parts::Just(Real::Rational(over, under)))
+    Some(Parts::Just(Real::Rational(over, under)))
 }
 
 // The parts of a text that is a prefix and an integer.
-fn brief_radix(t: &[u8]) -> MaybeParts
+fn brief_radix(t: &[u8]) -> Option<Parts>
     ensures { Briefly t.now result }
 {
     let radix = prefix(t);
     if radix == NO_RADIX {
-        return MaybeParts::NoParts;
+        return None;
     }
     if SHORT_IN_ANY < t.len() {
-        return MaybeParts::NoParts;
+        return None;
     }
     let negative = byte_runs::starts_at(t, PREFIX, b'-');
     let start = digits::sign_end(t, PREFIX);
     let run = digits::short_run(t, start, radix);
     if t.len() <= start {
-        return MaybeParts::NoParts;
+        return None;
     }
     if run.end < t.len() {
-        return MaybeParts::NoParts;
+        return None;
     }
-    MaybeParts::SomeParts(Parts::Just(Real::Integer(Int::Small(digits::small(
-        negative, run.value,
-    )))))
+    Some(Parts::Just(Real::Integer(Int::Small(digits::small(negative, run.value)))))
 }
 
 // The parts of a brief number; none are told of any other text.
-pub fn brief_parts(t: &[u8]) -> MaybeParts
+pub fn brief_parts(t: &[u8]) -> Option<Parts>
     ensures { Briefly t.now result }
 {
     if SHORT < t.len() {
-        return MaybeParts::NoParts;
+        return None;
     }
     let one = outline_at(t, 0);
     if !is_sound(one) {
@@ -181,7 +168,7 @@ pub fn brief_parts(t: &[u8]) -> MaybeParts
     }
     let end = one.end;
     if t.len() <= end {
-        return MaybeParts::SomeParts(Parts::Just(real_of(one)));
+        return Some(Parts::Just(real_of(one)));
     }
     let c = t[end];
     if c == b'@' {
@@ -191,10 +178,10 @@ pub fn brief_parts(t: &[u8]) -> MaybeParts
         return brief_complex(t, one);
     }
     if one.dot < end {
-        return MaybeParts::NoParts;
+        return None;
     }
     if c == b'/' {
         return brief_ratio(t, one);
     }
-    MaybeParts::NoParts
+    None
 }

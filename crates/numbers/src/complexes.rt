@@ -1,104 +1,91 @@
-// A number of one or two parts from a place on: <complex R> (specs/Grammar).
+// A number of one or two parts from a place on: <complex R> (specs/Grammar), by a grammar.
 ghost use Rattle.std.specs.Prelude.{◌≡◌, ◌+◌, ◌-◌, ◌≤◌, length, drop};
-ghost use Rattle.numbers.specs.Grammar.{just_of, complex_of, polar_of, ends_i, imaginary, alone_of, pair_of, to_sign, rectangular, complex};
+ghost use Rattle.numbers.specs.Grammar.{just_of, complex_of, polar_of, to_sign};
 
+use crate::grammar::NumberGrammar;
 use crate::reals::{is_marker, real_at};
-use crate::{MaybeParts, MaybeReal, Parts, Real};
+use crate::{Parts, Real};
+use digits::is_sign;
 
 // A number of one part.
-pub fn just(a: MaybeReal) -> MaybeParts
+pub fn just(a: Option<Real>) -> Option<Parts>
     ensures { result ≡ just_of a }
 {
-    match a {
-        MaybeReal::AReal(x) => MaybeParts::SomeParts(Parts::Just(x)),
-        MaybeReal::NoReal => MaybeParts::NoParts,
-    }
+    Some(Parts::Just(a?))
 }
 
 // A number of a real and an imaginary part.
-pub fn complex(a: MaybeReal, b: MaybeReal) -> MaybeParts
+pub fn complex(a: Option<Real>, b: Option<Real>) -> Option<Parts>
     ensures { result ≡ complex_of a b }
 {
-    match a {
-        MaybeReal::AReal(x) => match b {
-            MaybeReal::AReal(y) => MaybeParts::SomeParts(Parts::Complex(x, y)),
-            MaybeReal::NoReal => MaybeParts::NoParts,
-        },
-        MaybeReal::NoReal => MaybeParts::NoParts,
-    }
+    Some(Parts::Complex(a?, b?))
 }
 
 // A number of a magnitude and an angle.
-pub fn polar(a: MaybeReal, b: MaybeReal) -> MaybeParts
+pub fn polar(a: Option<Real>, b: Option<Real>) -> Option<Parts>
     ensures { result ≡ polar_of a b }
 {
-    match a {
-        MaybeReal::AReal(x) => match b {
-            MaybeReal::AReal(y) => MaybeParts::SomeParts(Parts::Polar(x, y)),
-            MaybeReal::NoReal => MaybeParts::NoParts,
-        },
-        MaybeReal::NoReal => MaybeParts::NoParts,
-    }
+    Some(Parts::Polar(a?, b?))
 }
 
 // Whether the last byte is `i`, and stands at a place or past it.
-pub(crate) fn ends_i(t: &[u8], from: usize) -> bool
-    ensures { result ≡ ends_i (drop from t.now) }
+pub(crate) fn ends_i<G: NumberGrammar>(t: &[u8], from: usize) -> bool
+    ensures { result ≡ G.ends_i (drop from t.now) }
 {
     if t.len() <= from {
         return false;
     }
     let last = t.len() - 1;
-    t[last] == b'i'
+    G::spells(t, last, b"i")
 }
 
 // The imaginary part from a place on, its `i` taken off.
-pub(crate) fn imaginary_at(t: &[u8], from: usize, radix: u64) -> MaybeReal
+pub(crate) fn imaginary_at<G: NumberGrammar>(t: &[u8], from: usize, radix: u64) -> Option<Real>
     requires { (1 ≤ radix) × (radix ≤ 16) }
-    ensures { result ≡ imaginary radix from (drop from t.now) }
+    ensures { result ≡ G.imaginary radix from (drop from t.now) }
 {
     if byte_runs::equal_from(t, from, b"+") {
-        return MaybeReal::AReal(Real::ImpliedOne(false));
+        return Some(Real::ImpliedOne(false));
     }
     if byte_runs::equal_from(t, from, b"-") {
-        return MaybeReal::AReal(Real::ImpliedOne(true));
+        return Some(Real::ImpliedOne(true));
     }
-    real_at(t, from, radix)
+    real_at::<G>(t, from, radix)
 }
 
-// The number from a place on, where no sign past its first byte cuts it.
-fn alone(t: &[u8], from: usize, radix: u64) -> MaybeParts
+// The number from a place on, where nothing joins two parts.
+fn alone<G: NumberGrammar>(t: &[u8], from: usize, radix: u64) -> Option<Parts>
     requires { (1 ≤ radix) × (radix ≤ 16) }
-    ensures { result ≡ alone_of radix from (drop from t.now) }
+    ensures { result ≡ G.alone_of radix from (drop from t.now) }
 {
-    if ends_i(t, from) {
+    if ends_i::<G>(t, from) {
         if digits::sign_end(t, from) == from {
-            MaybeParts::NoParts
+            None
         } else {
             let last = t.len() - 1;
             complex(
-                MaybeReal::AReal(Real::ImpliedZero),
-                imaginary_at(&t[..last], from, radix),
+                Some(Real::ImpliedZero),
+                imaginary_at::<G>(&t[..last], from, radix),
             )
         }
     } else {
-        just(real_at(t, from, radix))
+        just(real_at::<G>(t, from, radix))
     }
 }
 
-// The number from a place on, where the sign at k cuts it.
-fn pair(t: &[u8], from: usize, k: usize, radix: u64) -> MaybeParts
+// The number from a place on, where two parts join at k.
+fn pair<G: NumberGrammar>(t: &[u8], from: usize, k: usize, radix: u64) -> Option<Parts>
     requires { (1 ≤ radix) × (radix ≤ 16) × (from ≤ k) × (k ≤ length t.now) }
-    ensures { result ≡ pair_of radix from (k - from) (drop from t.now) }
+    ensures { result ≡ G.pair_of radix from (k - from) (drop from t.now) }
 {
-    if ends_i(t, k) {
+    if ends_i::<G>(t, k) {
         let last = t.len() - 1;
         complex(
-            real_at(&t[..k], from, radix),
-            imaginary_at(&t[..last], k, radix),
+            real_at::<G>(&t[..k], from, radix),
+            imaginary_at::<G>(&t[..last], k, radix),
         )
     } else {
-        MaybeParts::NoParts
+        None
     }
 }
 
@@ -106,58 +93,52 @@ fn pair(t: &[u8], from: usize, k: usize, radix: u64) -> MaybeParts
 pub fn to_sign(t: &[u8], from: usize, skip: bool) -> usize
     ensures { result ≡ from + to_sign skip (drop from t.now) }
 {
-    let mut i = from;
     let mut pass = skip;
-    while i < t.len() {
+    for i in from..t.len() {
         let c = t[i];
         if pass {
             pass = false;
-            i += 1;
-        } else {
-            if c == b'+' {
-                return i;
-            }
-            if c == b'-' {
-                return i;
-            }
-            pass = is_marker(c);
-            i += 1;
+            continue;
         }
+        if is_sign(c) {
+            return i;
+        }
+        pass = is_marker(c);
     }
-    i
+    from.max(t.len())
 }
 
 // The number without @ from a place on.
-fn rectangular_at(t: &[u8], from: usize, radix: u64) -> MaybeParts
+fn rectangular_at<G: NumberGrammar>(t: &[u8], from: usize, radix: u64) -> Option<Parts>
     requires { (1 ≤ radix) × (radix ≤ 16) }
-    ensures { result ≡ rectangular radix from (drop from t.now) }
+    ensures { result ≡ G.rectangular radix from (drop from t.now) }
 {
     if t.len() <= from {
-        return alone(t, from, radix);
+        return alone::<G>(t, from, radix);
     }
-    let marker = is_marker(t[from]);
-    let k = to_sign(t, from + 1, marker);
-    if k < t.len() {
-        let another = to_sign(t, k + 1, false);
-        if another < t.len() {
-            MaybeParts::NoParts
-        } else {
-            pair(t, from, k, radix)
-        }
+    let k = G::joint_at(t, from, radix);
+    if t.len() <= k {
+        return alone::<G>(t, from, radix);
+    }
+    if G::is_cut_again(t, from, k) {
+        None
     } else {
-        alone(t, from, radix)
+        pair::<G>(t, from, k, radix)
     }
 }
 
 // The number from a place on, its prefix taken off.
-pub(crate) fn complex_at(t: &[u8], from: usize, radix: u64) -> MaybeParts
+pub(crate) fn complex_at<G: NumberGrammar>(t: &[u8], from: usize, radix: u64) -> Option<Parts>
     requires { (1 ≤ radix) × (radix ≤ 16) }
-    ensures { result ≡ complex radix from (drop from t.now) }
+    ensures { result ≡ G.complex radix from (drop from t.now) }
 {
     let k = byte_runs::find(t, from, b'@');
     if k < t.len() {
-        polar(real_at(&t[..k], from, radix), real_at(t, k + 1, radix))
+        polar(
+            real_at::<G>(&t[..k], from, radix),
+            real_at::<G>(t, k + 1, radix),
+        )
     } else {
-        rectangular_at(t, from, radix)
+        rectangular_at::<G>(t, from, radix)
     }
 }

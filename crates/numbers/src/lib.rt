@@ -7,23 +7,26 @@
 ghost use Rattle.std.specs.Prelude.{◌≡◌, ◌≤◌, length, drop};
 ghost use Rattle.numbers.specs.Grammar.{zero_int, zero_real, zero_parts, judged, radix_mark, prefix, parse_number};
 ghost use Rattle.refusal.specs.Refusals.{limit};
+ghost use Rattle.numbers.specs.Grammars.{parts_by};
 ghost use Rattle.numbers.specs.Plain.{fraction, ratio, plain};
 ghost use Rattle.numbers.specs.Call.{answered, given, number};
 
-use chars::Utf8;
 use digits::{DECIMAL_RADIX, Int, Span};
+use grammar::Bought;
 use refusal::LIMIT;
 
 mod brief;
 mod complexes;
+mod grammar;
 mod plus;
 mod reals;
 
 pub use brief::brief_parts;
 pub use plus::plus_number;
 
-// What the second reader (crate numbers_standard) has in common with this one. Internal.
+// What a grammar is given by, and what its reader is made of: the second one is crate numbers_standard. Internal.
 pub use complexes::{complex, just, polar, to_sign};
+pub use grammar::NumberGrammar;
 pub use reals::{decimal_at, integral, is_marker, rational};
 
 // A decimal's exponent: whether it has a minus sign, and where its digits stand.
@@ -74,11 +77,18 @@ pub enum Parts {
     Polar(Real, Real),
 }
 
-// What the number call answers: specs/Call gives document 01's numbers for each case.
+// Why a text that is known to be UTF-8 and short enough is no number.
 #[derive(Clone, Copy)]
-pub enum NumberAnswer {
-    // 5
-    Is(Parts),
+pub enum ParseError {
+    // abc
+    NoNumber,
+    // 1/0
+    ZeroDenominator,
+}
+
+// Why the number call gives no parts: specs/Call gives document 01's numbers for each case.
+#[derive(Clone, Copy)]
+pub enum NumberError {
     // abc
     NoNumber,
     // 1/0
@@ -89,17 +99,6 @@ pub enum NumberAnswer {
     NotUtf8(usize),
 }
 
-// What a text is that is known to be UTF-8 and short enough.
-#[derive(Clone, Copy)]
-pub enum Parsed {
-    // 5
-    Is(Parts),
-    // abc
-    NoNumber,
-    // 1/0
-    ZeroDenominator,
-}
-
 // What follows a decimal's digits.
 #[derive(Clone, Copy)]
 pub enum Suffix {
@@ -108,27 +107,6 @@ pub enum Suffix {
     Marked(Exponent),
     // e
     Bad,
-}
-
-#[derive(Clone, Copy)]
-pub enum MaybeReal {
-    AReal(Real),
-    NoReal,
-}
-
-// What a text is that may be one decimal.
-#[derive(Clone, Copy)]
-pub enum MaybePoint {
-    // 1.5
-    APoint(Point),
-    // 15
-    NoPoint,
-}
-
-#[derive(Clone, Copy)]
-pub enum MaybeParts {
-    SomeParts(Parts),
-    NoParts,
 }
 
 // What a plainest real without a slash has from a place on: whether a minus sign, where its digits start, where those before a dot end and where
@@ -163,7 +141,7 @@ fn zero_int(n: Int) -> bool
     ensures { result ≡ zero_int n }
 {
     match n {
-        Int::Small(v) => { if v == 0 { true } else { false } }
+        Int::Small(v) => v == 0,
         Int::Big(_, _) => false,
     }
 }
@@ -174,14 +152,7 @@ fn zero_real(a: Real) -> bool
 {
     match a {
         Real::Rational(_, d) => zero_int(d),
-        Real::Integer(_) => false,
-        Real::Decimal(_) => false,
-        Real::PosInf => false,
-        Real::NegInf => false,
-        Real::PosNan => false,
-        Real::NegNan => false,
-        Real::ImpliedZero => false,
-        Real::ImpliedOne(_) => false,
+        _ => false,
     }
 }
 
@@ -191,24 +162,23 @@ fn zero_parts(p: Parts) -> bool
 {
     match p {
         Parts::Just(a) => zero_real(a),
-        Parts::Complex(a, b) => { if zero_real(a) { true } else { zero_real(b) } }
-        Parts::Polar(a, b) => { if zero_real(a) { true } else { zero_real(b) } }
+        Parts::Complex(a, b) | Parts::Polar(a, b) => zero_real(a) || zero_real(b),
     }
 }
 
 // What parts amount to.
-pub fn judge(m: MaybeParts) -> Parsed
+pub fn judge(m: Option<Parts>) -> Result<Parts, ParseError>
     ensures { result ≡ judged m }
 {
     match m {
-        MaybeParts::SomeParts(p) => {
+        Some(p) => {
             if zero_parts(p) {
-                Parsed::ZeroDenominator
+                Err(ParseError::ZeroDenominator)
             } else {
-                Parsed::Is(p)
+                Ok(p)
             }
         }
-        MaybeParts::NoParts => Parsed::NoNumber,
+        None => Err(ParseError::NoNumber),
     }
 }
 
@@ -239,16 +209,23 @@ pub fn prefix(t: &[u8]) -> u64
     }
 }
 
-// What a text is as a number. Internal: for a text that is known to be UTF-8 and short enough.
-pub fn parse_number(t: &[u8]) -> Parsed
-    ensures { result ≡ parse_number t.now }
+// The parts of a text by a grammar. Internal: the two readers judge them.
+pub fn number_parts<G: NumberGrammar>(t: &[u8]) -> Option<Parts>
+    ensures { result ≡ parts_by G.complex t.now }
 {
     let radix = prefix(t);
     if radix == NO_RADIX {
-        judge(complexes::complex_at(t, 0, DECIMAL_RADIX))
+        complexes::complex_at::<G>(t, 0, DECIMAL_RADIX)
     } else {
-        judge(complexes::complex_at(t, PREFIX, radix))
+        complexes::complex_at::<G>(t, PREFIX, radix)
     }
+}
+
+// What a text is as a number. Internal: for a text that is known to be UTF-8 and short enough.
+pub fn parse_number(t: &[u8]) -> Result<Parts, ParseError>
+    ensures { result ≡ parse_number t.now }
+{
+    judge(number_parts::<Bought>(t))
 }
 
 // Whether a dot and digits stand from a place on, and nothing else.
@@ -301,36 +278,36 @@ pub fn is_plain(t: &[u8]) -> bool
 }
 
 // The answer to a text that is not refused.
-pub fn serve(p: Parsed) -> NumberAnswer
+pub fn serve(p: Result<Parts, ParseError>) -> Result<Parts, NumberError>
     ensures { answered result ≡ given p }
 {
     match p {
-        Parsed::Is(parts) => NumberAnswer::Is(parts),
-        Parsed::NoNumber => NumberAnswer::NoNumber,
-        Parsed::ZeroDenominator => NumberAnswer::ZeroDenominator,
+        Ok(parts) => Ok(parts),
+        Err(ParseError::NoNumber) => Err(NumberError::NoNumber),
+        Err(ParseError::ZeroDenominator) => Err(NumberError::ZeroDenominator),
     }
 }
 
 // The number call on a text that is short enough, by the whole grammar.
-pub fn by_grammar(t: &[u8]) -> NumberAnswer
+pub fn by_grammar(t: &[u8]) -> Result<Parts, NumberError>
     requires { length t.now ≤ limit }
     ensures { answered result ≡ number t.now }
 {
     match chars::first_bad(t) {
-        Utf8::Bad(at) => NumberAnswer::NotUtf8(at),
-        Utf8::Good => serve(parse_number(t)),
+        Some(at) => Err(NumberError::NotUtf8(at)),
+        None => serve(parse_number(t)),
     }
 }
 
 // The number call on any bytes. A brief number is ASCII, so its text need not be asked whether it is UTF-8.
-pub fn number(t: &[u8]) -> NumberAnswer
+pub fn number(t: &[u8]) -> Result<Parts, NumberError>
     ensures { answered result ≡ number t.now }
 {
     if LIMIT < t.len() {
-        return NumberAnswer::TooLong;
+        return Err(NumberError::TooLong);
     }
     match brief_parts(t) {
-        MaybeParts::SomeParts(p) => NumberAnswer::Is(p),
-        MaybeParts::NoParts => by_grammar(t),
+        Some(p) => Ok(p),
+        None => by_grammar(t),
     }
 }

@@ -6,20 +6,10 @@ ghost use Rattle.numbers.specs.Grammar.{alone_of, pair_of, parse_number, numeric
 ghost use Rattle.numbers.specs.Reals.{real};
 ghost use Rattle.numbers.specs.AfterPlus.{is_real, is_parts};
 
-use crate::MaybeReal;
 use crate::complexes::{ends_i, imaginary_at, to_sign};
+use crate::grammar::Bought;
 use crate::reals::{real_at, ureal_at};
 use digits::DECIMAL_RADIX;
-
-// Whether there is a real.
-fn is_real(r: MaybeReal) -> bool
-    ensures { result ≡ is_real r }
-{
-    match r {
-        MaybeReal::AReal(_) => true,
-        MaybeReal::NoReal => false,
-    }
-}
 
 // Whether a plus and t are a real: +5, +inf.0
 fn plus_real(t: &[u8]) -> bool
@@ -31,7 +21,7 @@ fn plus_real(t: &[u8]) -> bool
     if byte_runs::equal_from(t, 0, b"nan.0") {
         return true;
     }
-    is_real(ureal_at(t, 0, DECIMAL_RADIX, false))
+    ureal_at::<Bought>(t, 0, DECIMAL_RADIX, false).is_some()
 }
 
 // Whether a plus and t are a number that the sign at k cuts: +1-2i
@@ -39,10 +29,10 @@ fn plus_pair(t: &[u8], k: usize) -> bool
     requires { k < length t.now }
     ensures { result ≡ is_parts (pair_of 10 0 (suc k) (code "+" ∷ t.now)) }
 {
-    if ends_i(t, k) {
+    if ends_i::<Bought>(t, k) {
         if plus_real(&t[..k]) {
             let last = t.len() - 1;
-            return is_real(imaginary_at(&t[..last], k, DECIMAL_RADIX));
+            return imaginary_at::<Bought>(&t[..last], k, DECIMAL_RADIX).is_some();
         }
         return false;
     }
@@ -53,7 +43,7 @@ fn plus_pair(t: &[u8], k: usize) -> bool
 fn plus_alone(t: &[u8]) -> bool
     ensures { result ≡ is_parts (alone_of 10 0 (code "+" ∷ t.now)) }
 {
-    if ends_i(t, 0) {
+    if ends_i::<Bought>(t, 0) {
         let last = t.len() - 1;
         if last == 0 {
             return true;
@@ -70,7 +60,7 @@ pub fn plus_number(t: &[u8]) -> bool
     let k = byte_runs::find(t, 0, b'@');
     if k < t.len() {
         if plus_real(&t[..k]) {
-            return is_real(real_at(t, k + 1, DECIMAL_RADIX));
+            return real_at::<Bought>(t, k + 1, DECIMAL_RADIX).is_some();
         }
         return false;
     }

@@ -1,19 +1,17 @@
-// A real number from a place on: <real R> and the productions below it (specs/Reals).
+// A real number from a place on: <real R> and the productions below it (specs/Reals). From an integer or a rational on they are those of a grammar.
 ghost use Rattle.std.specs.Prelude.{◌≡◌, ◌-◌, ◌≤◌, eqb, drop};
 ghost use Rattle.digits.specs.Digits.{digits};
-ghost use Rattle.numbers.specs.Reals.{exponent_marker, exponent, suffix, point_of, dotted, undotted, decimal, infnan, integral_of, rational_of, denominator, exact, ureal, real};
+ghost use Rattle.numbers.specs.Reals.{exponent_marker, exponent, suffix, point_of, dotted, undotted, decimal, integral_of, rational_of};
 
-use crate::{Exponent, MaybeReal, Point, Real, Suffix};
-use digits::{DECIMAL_RADIX, MaybeInt, Span};
+use crate::grammar::NumberGrammar;
+use crate::{Exponent, Point, Real, Suffix};
+use digits::{DECIMAL_RADIX, Int, Span};
 
 // Whether a byte marks an exponent.
 pub fn is_marker(c: u8) -> bool
     ensures { result ≡ exponent_marker c }
 {
-    if c == b'e' {
-        return true;
-    }
-    c == b'E'
+    matches!(c, b'e' | b'E')
 }
 
 // The exponent after its marker.
@@ -48,11 +46,11 @@ fn suffix_at(t: &[u8], from: usize) -> Suffix
 }
 
 // A decimal of its sign, the places of its digits and its suffix.
-pub(crate) fn point_of(negative: bool, whole: Span, fraction: Span, x: Suffix) -> MaybeReal
+pub(crate) fn point_of(negative: bool, whole: Span, fraction: Span, x: Suffix) -> Option<Real>
     ensures { result ≡ point_of negative whole fraction x }
 {
     match x {
-        Suffix::Empty => MaybeReal::AReal(Real::Decimal(Point {
+        Suffix::Empty => Some(Real::Decimal(Point {
             negative,
             whole,
             fraction,
@@ -64,18 +62,18 @@ pub(crate) fn point_of(negative: bool, whole: Span, fraction: Span, x: Suffix) -
                 },
             },
         })),
-        Suffix::Marked(exponent) => MaybeReal::AReal(Real::Decimal(Point {
+        Suffix::Marked(exponent) => Some(Real::Decimal(Point {
             negative,
             whole,
             fraction,
             exponent,
         })),
-        Suffix::Bad => MaybeReal::NoReal,
+        Suffix::Bad => None,
     }
 }
 
 // The decimal whose dot stands before a place; the digits before the dot stand from start to end.
-fn dotted(t: &[u8], from: usize, neg: bool, start: usize, end: usize) -> MaybeReal
+fn dotted(t: &[u8], from: usize, neg: bool, start: usize, end: usize) -> Option<Real>
     requires { start ≤ end }
     ensures { result ≡ dotted neg start (end - start) from (drop from t.now) }
 {
@@ -87,7 +85,7 @@ fn dotted(t: &[u8], from: usize, neg: bool, start: usize, end: usize) -> MaybeRe
     };
     if start == end {
         if from == stop {
-            return MaybeReal::NoReal;
+            return None;
         }
         return point_of(neg, whole, fraction, suffix_at(t, stop));
     }
@@ -95,25 +93,25 @@ fn dotted(t: &[u8], from: usize, neg: bool, start: usize, end: usize) -> MaybeRe
 }
 
 // The decimal without a dot, whose digits stand from start to end.
-fn undotted(neg: bool, start: usize, end: usize, x: Suffix) -> MaybeReal
+fn undotted(neg: bool, start: usize, end: usize, x: Suffix) -> Option<Real>
     requires { start ≤ end }
     ensures { result ≡ undotted neg start (end - start) x }
 {
     match x {
-        Suffix::Empty => MaybeReal::NoReal,
+        Suffix::Empty => None,
         Suffix::Marked(_) => {
             if start == end {
-                MaybeReal::NoReal
+                None
             } else {
                 point_of(neg, Span { start, end }, Span { start: end, end }, x)
             }
         }
-        Suffix::Bad => MaybeReal::NoReal,
+        Suffix::Bad => None,
     }
 }
 
 // The decimal from a place on, after its sign.
-pub fn decimal_at(t: &[u8], from: usize, neg: bool) -> MaybeReal
+pub fn decimal_at(t: &[u8], from: usize, neg: bool) -> Option<Real>
     ensures { result ≡ decimal neg from (drop from t.now) }
 {
     let end = digits::decimal_end(t, from);
@@ -125,53 +123,36 @@ pub fn decimal_at(t: &[u8], from: usize, neg: bool) -> MaybeReal
 }
 
 // One of the four texts of an infinity or of no number.
-fn infnan_at(t: &[u8], from: usize) -> MaybeReal
-    ensures { result ≡ infnan (drop from t.now) }
+fn infnan_at<G: NumberGrammar>(t: &[u8], from: usize) -> Option<Real>
+    ensures { result ≡ G.infnan (drop from t.now) }
 {
-    if byte_runs::equal_from(t, from, b"+inf.0") {
-        return MaybeReal::AReal(Real::PosInf);
+    if G::spells(t, from, b"+inf.0") {
+        return Some(Real::PosInf);
     }
-    if byte_runs::equal_from(t, from, b"-inf.0") {
-        return MaybeReal::AReal(Real::NegInf);
+    if G::spells(t, from, b"-inf.0") {
+        return Some(Real::NegInf);
     }
-    if byte_runs::equal_from(t, from, b"+nan.0") {
-        return MaybeReal::AReal(Real::PosNan);
+    if G::spells(t, from, b"+nan.0") {
+        return Some(Real::PosNan);
     }
-    if byte_runs::equal_from(t, from, b"-nan.0") {
-        return MaybeReal::AReal(Real::NegNan);
+    if G::spells(t, from, b"-nan.0") {
+        return Some(Real::NegNan);
     }
-    MaybeReal::NoReal
+    None
 }
 
 // An integer as a real.
-pub fn integral(n: MaybeInt) -> MaybeReal
+pub fn integral(n: Option<Int>) -> Option<Real>
     ensures { result ≡ integral_of n }
 {
-    match n {
-        MaybeInt::AnInt(a) => MaybeReal::AReal(Real::Integer(a)),
-        MaybeInt::NoInt => MaybeReal::NoReal,
-    }
+    Some(Real::Integer(n?))
 }
 
 // A rational of two integers.
-pub fn rational(n: MaybeInt, d: MaybeInt) -> MaybeReal
+pub fn rational(n: Option<Int>, d: Option<Int>) -> Option<Real>
     ensures { result ≡ rational_of n d }
 {
-    match n {
-        MaybeInt::AnInt(a) => match d {
-            MaybeInt::AnInt(b) => MaybeReal::AReal(Real::Rational(a, b)),
-            MaybeInt::NoInt => MaybeReal::NoReal,
-        },
-        MaybeInt::NoInt => MaybeReal::NoReal,
-    }
-}
-
-// The denominator from a place on.
-fn denominator_at(t: &[u8], from: usize, radix: u64) -> MaybeInt
-    requires { (1 ≤ radix) × (radix ≤ 16) }
-    ensures { result ≡ denominator radix from (drop from t.now) }
-{
-    digits::integer(t, from, radix)
+    Some(Real::Rational(n?, d?))
 }
 
 // Whether no digit stands at a place.
@@ -185,18 +166,23 @@ fn no_digit_at(t: &[u8], from: usize, radix: u64) -> bool
 }
 
 // The integer or rational from a place on, after its sign.
-pub(crate) fn exact_at(t: &[u8], from: usize, radix: u64, neg: bool) -> MaybeReal
+pub(crate) fn exact_at<G: NumberGrammar>(
+    t: &[u8],
+    from: usize,
+    radix: u64,
+    neg: bool,
+) -> Option<Real>
     requires { (1 ≤ radix) × (radix ≤ 16) }
-    ensures { result ≡ exact radix neg from (drop from t.now) }
+    ensures { result ≡ G.exact radix neg from (drop from t.now) }
 {
     if no_digit_at(t, from, radix) {
-        return MaybeReal::NoReal;
+        return None;
     }
     let k = byte_runs::find(t, from, b'/');
     if k < t.len() {
         rational(
             digits::whole(&t[..k], from, radix, neg),
-            denominator_at(t, k + 1, radix),
+            G::denominator_at(t, k + 1, radix),
         )
     } else {
         integral(digits::whole(t, from, radix, neg))
@@ -204,33 +190,32 @@ pub(crate) fn exact_at(t: &[u8], from: usize, radix: u64, neg: bool) -> MaybeRea
 }
 
 // The real from a place on, after its sign.
-pub(crate) fn ureal_at(t: &[u8], from: usize, radix: u64, neg: bool) -> MaybeReal
+pub(crate) fn ureal_at<G: NumberGrammar>(
+    t: &[u8],
+    from: usize,
+    radix: u64,
+    neg: bool,
+) -> Option<Real>
     requires { (1 ≤ radix) × (radix ≤ 16) }
-    ensures { result ≡ ureal radix neg from (drop from t.now) }
+    ensures { result ≡ G.ureal radix neg from (drop from t.now) }
 {
     if radix == DECIMAL_RADIX {
-        let x = decimal_at(t, from, neg);
-        match x {
-            MaybeReal::AReal(_) => x,
-            MaybeReal::NoReal => exact_at(t, from, radix, neg),
+        if let Some(x) = decimal_at(t, from, neg) {
+            return Some(x);
         }
-    } else {
-        exact_at(t, from, radix, neg)
     }
+    exact_at::<G>(t, from, radix, neg)
 }
 
 // The real from a place on.
-pub(crate) fn real_at(t: &[u8], from: usize, radix: u64) -> MaybeReal
+pub(crate) fn real_at<G: NumberGrammar>(t: &[u8], from: usize, radix: u64) -> Option<Real>
     requires { (1 ≤ radix) × (radix ≤ 16) }
-    ensures { result ≡ real radix from (drop from t.now) }
+    ensures { result ≡ G.real radix from (drop from t.now) }
 {
-    let x = infnan_at(t, from);
-    match x {
-        MaybeReal::AReal(_) => x,
-        MaybeReal::NoReal => {
-            let neg = byte_runs::starts_at(t, from, b'-');
-            let a = digits::sign_end(t, from);
-            ureal_at(t, a, radix, neg)
-        }
+    if let Some(x) = infnan_at::<G>(t, from) {
+        return Some(x);
     }
+    let neg = byte_runs::starts_at(t, from, b'-');
+    let a = digits::sign_end(t, from);
+    ureal_at::<G>(t, a, radix, neg)
 }

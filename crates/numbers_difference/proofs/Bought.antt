@@ -1,4 +1,5 @@
 -- What the bought reader reads as <complex R>, the grammar derives, with no capital and no sign after an odd number of e's; or it has a sign below a slash.
+use Rattle.std.proofs.Common.{None, Option, Some}
 use mathlib.Core.List.{List, [], ◌++◌, ◌∷◌, append-nil, map}
 use Prim.Native.Nat.{◌+◌, ◌-◌, ◌<◌, ◌≤◌, suc, ℕ}
 use mathlib.Core.Path.{◌∙◌, ◌≡◌, ap, refl, subst, sym}
@@ -9,13 +10,10 @@ use lib.Seq.{drop_at, drop-drop, length-take-le}
 use lib.Dec.{eqb, lit<, ltb}
 use borrow.Author.Tests.{eqb-false, eqb-true, ltb-false, ltb-true}
 use mathlib.Core.Bool.{false, true}
-use Rattle.numbers.specs.declared.MaybeReal.TheVariants.{AReal, NoReal}
 use Rattle.numbers.specs.declared.Parts.TheVariants.{Complex, Just, Polar}
 use Rattle.numbers.specs.declared.Real.TheVariants.{ImpliedOne, ImpliedZero}
-use Rattle.numbers.specs.declared.MaybeReal.{MaybeReal}
 use Rattle.numbers.specs.declared.Parts.{Parts}
 use Rattle.numbers.specs.declared.Real.{Real}
-use Rattle.numbers.specs.declared.MaybeParts.TheVariants.{SomeParts}
 use Rattle.laws.specs.Texts.{before, same, starts}
 use Rattle.laws.proofs.Choice.{by_bool, yes_no, impossible}
 use Rattle.laws.specs.Quoted.{code, within}
@@ -104,12 +102,12 @@ odd_i s h = reset_join sign_after odd_e (code "i") (odd_hit (code "i") mark_fact
 abbrev ReadI : ℕ → ℕ → List ℕ → Real → Type 0
 ReadI R p s r = (ImaginaryAt R p s r × (capital false s ≡ false)) ⊎ SignedBelow R s
 
-imaginary_read : (R p : ℕ) (s : List ℕ) (r : Real) → R ≤ 16 → (sign s ≡ 0 → ⊥) → bought-grammar.imaginary R p s ≡ AReal r → ReadI R p s r
+imaginary_read : (R p : ℕ) (s : List ℕ) (r : Real) → R ≤ 16 → (sign s ≡ 0 → ⊥) → bought-grammar.imaginary R p s ≡ Some r → ReadI R p s r
 unfolding bought-grammar.imaginary
 imaginary_read R p s r l n h =
-    by_bool (same s (code "+" ∷ [])) (λ e. let q : AReal (ImpliedOne false) ≡ AReal r = rw e at h in let z : r ≡ ImpliedOne false = cc in
+    by_bool (same s (code "+" ∷ [])) (λ e. let q : Some (ImpliedOne false) ≡ Some r = rw e at h in let z : r ≡ ImpliedOne false = cc in
     rw (z, same_is s _ e) (inl (ImaginaryAt.one, plain-capital (code "+" ∷ []) (plain_sign Sign.positive)))) (λ a.
-    by_bool (same s (code "-" ∷ [])) (λ e. let q : AReal (ImpliedOne true) ≡ AReal r = rw (a, e) at h in let z : r ≡ ImpliedOne true = cc in
+    by_bool (same s (code "-" ∷ [])) (λ e. let q : Some (ImpliedOne true) ≡ Some r = rw (a, e) at h in let z : r ≡ ImpliedOne true = cc in
     rw (z, same_is s _ e) (inl (ImaginaryAt.minus_one, plain-capital (code "-" ∷ []) (plain_sign Sign.negative)))) (λ b.
     go (real_read R p s r l (rw (a, b) at h))))
   where
@@ -117,7 +115,7 @@ imaginary_read R p s r l n h =
     go (inl d) = inl (real_imaginary l d.0 n, d.1)
     go (inr d) = inr d
 
-pub imaginary_low : {R p : ℕ} {s : List ℕ} {r : Real} → R ≤ 16 → ImaginaryAt R p s r → capital false s ≡ false → bought-grammar.imaginary R p s ≡ AReal r
+pub imaginary_low : {R p : ℕ} {s : List ℕ} {r : Real} → R ≤ 16 → ImaginaryAt R p s r → capital false s ≡ false → bought-grammar.imaginary R p s ≡ Some r
 unfolding bought-grammar.imaginary same
 imaginary_low {R} {p} h (ImaginaryAt.positive {s = s} u) c = let d = head_ureal u in simp (longer s d) (real_low h (RealAt.ureal Sign.positive u) c)
   where
@@ -146,25 +144,25 @@ imaginary_low h ImaginaryAt.minus_one c = refl
 abbrev Fine : ℕ → ℕ → List ℕ → Parts → Type 0
 Fine R p s a = ComplexAt R p s a × (capital false s ≡ false) × (R ≡ 16 → sign_after_odd_e false s ≡ false)
 
-alone_read : (R p : ℕ) (s : List ℕ) (a : Parts) → R ≤ 16 → length s ≤ cut s → bought-grammar.alone_of R p s ≡ SomeParts a → Fine R p s a
+alone_read : (R p : ℕ) (s : List ℕ) (a : Parts) → R ≤ 16 → length s ≤ cut s → bought-grammar.alone_of R p s ≡ Some a → Fine R p s a
 unfolding bought-grammar.alone_of just_of complex_of
 alone_read R p s a l n h =
     by_bool (bought-grammar.ends_i s)
     (λ e. by_bool (eqb (sign s) 0) (λ f. no_parts (rw (e, f) at h)) (λ f. imag e (eqb-false (sign s) 0 f) (bought-grammar.imaginary R p (init s)) refl (rw (e, f) at h)))
     (λ e. one (bought.real R p s) refl (rw e at h))
   where
-    one : (u : MaybeReal) → bought.real R p s ≡ u → just_of (bought.real R p s) ≡ SomeParts a → Fine R p s a
-    one (AReal x) f k = let k' : SomeParts (Just x) ≡ SomeParts a = rw f at k in let z : a ≡ Just x = cc in go z (real_read R p s x l f)
+    one : (u : Option Real) → bought.real R p s ≡ u → just_of (bought.real R p s) ≡ Some a → Fine R p s a
+    one (Some x) f k = let k' : Some (Just x) ≡ Some a = rw f at k in let z : a ≡ Just x = cc in go z (real_read R p s x l f)
       where
         go : a ≡ Just x → Read R p s x → Fine R p s a
         go z (inl d) = (rw z (ComplexAt.real d.0), d.1, λ q. real_odd q d.0)
         go z (inr d) = absurd (omega (arith, rw append-nil at (below_cut [] d)))
-    one NoReal f k = no_parts (rw f at k)
+    one None f k = no_parts (rw f at k)
 
-    imag : bought-grammar.ends_i s ≡ true → (sign s ≡ 0 → ⊥) → (u : MaybeReal) → bought-grammar.imaginary R p (init s) ≡ u
-        → complex_of (AReal ImpliedZero) (bought-grammar.imaginary R p (init s)) ≡ SomeParts a → Fine R p s a
-    imag e m (AReal y) f k =
-        let k' : SomeParts (Complex ImpliedZero y) ≡ SomeParts a = rw f at k in
+    imag : bought-grammar.ends_i s ≡ true → (sign s ≡ 0 → ⊥) → (u : Option Real) → bought-grammar.imaginary R p (init s) ≡ u
+        → complex_of (Some ImpliedZero) (bought-grammar.imaginary R p (init s)) ≡ Some a → Fine R p s a
+    imag e m (Some y) f k =
+        let k' : Some (Complex ImpliedZero y) ≡ Some a = rw f at k in
         let z : a ≡ Complex ImpliedZero y = cc in
         go z (imaginary_read R p (init s) y l (signed_init s (sign_signed s m) (ends_i_both s e)) f)
       where
@@ -178,7 +176,7 @@ alone_read R p s a l n h =
           λ q. ap (sign_after_odd_e false) w ∙ odd_i (init s) (imaginary_odd q d.0),
         )
         go z (inr d) = absurd (omega (arith, below_cut (code "i" ∷ []) d, ap cut w, ap length w, length-append (init s) (code "i" ∷ [])))
-    imag e m NoReal f k = no_parts (rw f at k)
+    imag e m None f k = no_parts (rw f at k)
 
 -- cut before a sign: the signs of the first part, the joining one and those after it
 odd_cons : (c : ℕ) (t : List ℕ) → to_sign (starts_e (c ∷ t)) t < length t → sign_after_odd_e false (take (cut (c ∷ t)) (c ∷ t)) ≡ false
@@ -196,17 +194,17 @@ cut_of_sign : (c : ℕ) (t : List ℕ) → is_sign c ≡ true → cut (c ∷ t) 
 unfolding starts_e
 cut_of_sign c t h = rw (sign_marker c h)
 
-complex_two : (u v : MaybeReal) (a : Parts) → complex_of u v ≡ SomeParts a → (x : Real) × (y : Real) × (u ≡ AReal x) × (v ≡ AReal y) × (a ≡ Complex x y)
+complex_two : (u v : Option Real) (a : Parts) → complex_of u v ≡ Some a → (x : Real) × (y : Real) × (u ≡ Some x) × (v ≡ Some y) × (a ≡ Complex x y)
 unfolding complex_of
-complex_two (AReal x) (AReal y) a k = let z : a ≡ Complex x y = cc in (x, y, refl, refl, z)
-complex_two (AReal x) NoReal a k = no_parts k
-complex_two NoReal v a k = no_parts k
+complex_two (Some x) (Some y) a k = let z : a ≡ Complex x y = cc in (x, y, refl, refl, z)
+complex_two (Some x) None a k = no_parts k
+complex_two None v a k = no_parts k
 
-polar_two : (u v : MaybeReal) (a : Parts) → polar_of u v ≡ SomeParts a → (x : Real) × (y : Real) × (u ≡ AReal x) × (v ≡ AReal y) × (a ≡ Polar x y)
+polar_two : (u v : Option Real) (a : Parts) → polar_of u v ≡ Some a → (x : Real) × (y : Real) × (u ≡ Some x) × (v ≡ Some y) × (a ≡ Polar x y)
 unfolding polar_of
-polar_two (AReal x) (AReal y) a k = let z : a ≡ Polar x y = cc in (x, y, refl, refl, z)
-polar_two (AReal x) NoReal a k = no_parts k
-polar_two NoReal v a k = no_parts k
+polar_two (Some x) (Some y) a k = let z : a ≡ Polar x y = cc in (x, y, refl, refl, z)
+polar_two (Some x) None a k = no_parts k
+polar_two None v a k = no_parts k
 
 module _ (R p : ℕ) (s : List ℕ) (a : Parts) (l : R ≤ 16) (m : cut s < length s) where
   cut_sign : At (cut s) s
@@ -245,17 +243,17 @@ module _ (R p : ℕ) (s : List ℕ) (a : Parts) (l : R ≤ 16) (m : cut s < leng
         absurd (omega arith)
     pair_fine x y z (inl d) (inr e) = absurd (not_below e)
 
-  pair_read : length s ≤ cut s + 1 + to_sign false (drop (cut s + 1) s) → bought-grammar.pair_of R p (cut s) s ≡ SomeParts a → Fine R p s a
+  pair_read : length s ≤ cut s + 1 + to_sign false (drop (cut s + 1) s) → bought-grammar.pair_of R p (cut s) s ≡ Some a → Fine R p s a
   unfolding bought-grammar.pair_of
   pair_read n h = by_bool (bought-grammar.ends_i (drop (cut s) s)) (λ f. two f (rw f at h)) (λ f. no_parts (rw f at h))
     where
-      two : bought-grammar.ends_i (drop (cut s) s) ≡ true → complex_of (bought.real R p (take (cut s) s)) (bought-grammar.imaginary R (p + cut s) (init (drop (cut s) s))) ≡ SomeParts a → Fine R p s a
+      two : bought-grammar.ends_i (drop (cut s) s) ≡ true → complex_of (bought.real R p (take (cut s) s)) (bought-grammar.imaginary R (p + cut s) (init (drop (cut s) s))) ≡ Some a → Fine R p s a
       two f k =
           let t = complex_two (bought.real R p (take (cut s) s)) (bought-grammar.imaginary R (p + cut s) (init (drop (cut s) s))) a k in
           pair_fine n f t.0 t.1 t.4 (real_read R p (take (cut s) s) t.0 l t.2)
           (imaginary_read R (p + cut s) (init (drop (cut s) s)) t.1 l (signed_init (drop (cut s) s) cut_sign (ends_i_both (drop (cut s) s) f)) t.3)
 
-rect_read : (R p : ℕ) (s : List ℕ) (a : Parts) → R ≤ 16 → bought-grammar.rectangular R p s ≡ SomeParts a → Fine R p s a
+rect_read : (R p : ℕ) (s : List ℕ) (a : Parts) → R ≤ 16 → bought-grammar.rectangular R p s ≡ Some a → Fine R p s a
 unfolding bought-grammar.rectangular
 rect_read R p s a l h =
     by_bool (ltb (cut s) (length s))
@@ -309,12 +307,12 @@ polar_read R p x y u v a l z (inl d) (inr e) =
       λ h. odd_at x y (real_odd h d.0) (below_odd h e),
     )
 
-pub complex_read : (R p : ℕ) (s : List ℕ) (a : Parts) → R ≤ 16 → bought-grammar.complex R p s ≡ SomeParts a → ReadC R p s a
+pub complex_read : (R p : ℕ) (s : List ℕ) (a : Parts) → R ≤ 16 → bought-grammar.complex R p s ≡ Some a → ReadC R p s a
 unfolding bought-grammar.complex
 complex_read R p s a l h = by_bool (ltb (before (code "@") s) (length s)) (λ e. polar e (rw e at h)) (λ e. inl (rect_read R p s a l (rw e at h)))
   where
     polar : ltb (before (code "@") s) (length s) ≡ true → polar_of (bought.real R p (take (before (code "@") s) s))
-        (bought.real R (p + before (code "@") s + 1) (drop (before (code "@") s + 1) s)) ≡ SomeParts a → ReadC R p s a
+        (bought.real R (p + before (code "@") s + 1) (drop (before (code "@") s + 1) s)) ≡ Some a → ReadC R p s a
     polar e k =
         let t = polar_two (bought.real R p (take (before (code "@") s) s)) (bought.real R (p + before (code "@") s + 1) (drop (before (code "@") s + 1) s)) a k in
         let o : length (take (before (code "@") s) s) ≡ before (code "@") s = length-take-le (before (code "@") s) s (omega (arith, ltb-true (before (code "@") s) (length s) e)) in

@@ -1,5 +1,6 @@
 -- The theorem for the number call with a choice: by choice 0 and by choice 1 it answers differently exactly if the text is not refused and
 -- meets one of the three conditions.
+use Rattle.std.proofs.Common.{None, Option, Some, Ok, Err}
 use Prim.Native.Nat.{ℕ, ◌≤◌}
 use mathlib.Core.Path.{◌≡◌, refl, sym, ap, ◌∙◌}
 use mathlib.Core.List.{List}
@@ -9,12 +10,9 @@ use lib.Dec.{ltb}
 use borrow.Author.Tests.{ltb-true, ltb-false}
 use Rattle.laws.proofs.Choice.{by_bool}
 use Rattle.refusal.specs.Refusals.{limit}
-use Rattle.chars.specs.declared.Utf8.{Utf8}
-use Rattle.chars.specs.declared.Utf8.TheVariants as utf8
 use Rattle.chars.specs.Utf8.{first_bad}
-use Rattle.numbers.specs.declared.Parsed.{Parsed}
-use Rattle.numbers.specs.declared.Parsed.TheVariants as parsed
-use Rattle.numbers.specs.Grammar.{parse_number}
+use Rattle.numbers.specs.declared.ParseError.TheVariants as parsed
+use Rattle.numbers.specs.Grammar.{parse_number, Parsed}
 use Rattle.numbers.specs.Call.{Answer, parts, no_number, error, refused, given, number}
 use Rattle.numbers.proofs.Call as bought-call
 use Rattle.numbers_standard.specs.Grammar.{parse_standard}
@@ -28,19 +26,19 @@ given_one : (p q : Parsed) → given p ≡ given q → p ≡ q
 given_one p q e = sym (back-given p) ∙ ap back e ∙ back-given q
   where
     back : Answer → Parsed
-    back (parts p) = parsed.Is p
-    back no_number = parsed.NoNumber
-    back (error n) = parsed.ZeroDenominator
-    back (refused n m) = parsed.NoNumber
+    back (parts p) = Ok p
+    back no_number = Err parsed.NoNumber
+    back (error n) = Err parsed.ZeroDenominator
+    back (refused n m) = Err parsed.NoNumber
 
     back-given : (p : Parsed) → back (given p) ≡ p
-    back-given (parsed.Is p) = refl
-    back-given parsed.NoNumber = refl
-    back-given parsed.ZeroDenominator = refl
+    back-given (Ok p) = refl
+    back-given (Err parsed.NoNumber) = refl
+    back-given (Err parsed.ZeroDenominator) = refl
 
 -- a text that is not refused
 abbrev pub Readable : List ℕ → Type 0
-Readable t = (length t ≤ limit) × (first_bad t ≡ utf8.Good)
+Readable t = (length t ≤ limit) × (first_bad t ≡ None)
 
 module _ (t : List ℕ) where
   -- the two calls
@@ -61,9 +59,9 @@ module _ (t : List ℕ) where
       (λ e. absurd (n (bought-call.too_long t (ltb-true limit (length t) e) ∙ sym (standard-call.too_long t (ltb-true limit (length t) e)))))
       (λ e. go (ltb-false limit (length t) e) (first_bad t) refl)
     where
-      go : length t ≤ limit → (u : Utf8) → first_bad t ≡ u → Readable t × Differs t
-      go h utf8.Good e = ((h, e), (differs t).0 (λ q. n (readable_same (h, e) q)))
-      go h (utf8.Bad at) e = absurd (n (bought-call.not_utf8_holds t h at e ∙ sym (standard-call.not_utf8_holds t h at e)))
+      go : length t ≤ limit → (u : Option ℕ) → first_bad t ≡ u → Readable t × Differs t
+      go h None e = ((h, e), (differs t).0 (λ q. n (readable_same (h, e) q)))
+      go h (Some at) e = absurd (n (bought-call.not_utf8_holds t h at e ∙ sym (standard-call.not_utf8_holds t h at e)))
 
   pub differs_by_choice : (number_by bought t ≡ number_by standard t → ⊥) ↔ (Readable t × Differs t)
   differs_by_choice =

@@ -9,11 +9,7 @@ use lib.Seq.{drop-append-add, take-append_seam}
 use lib.Dec.{eqb}
 use borrow.Author.Tests.{eqb-false, eqb-true, lt-ltb, ne_eqb}
 use mathlib.Core.Bool.{false, true}
-use Rattle.numbers.specs.declared.MaybeReal.TheVariants.{AReal, NoReal}
-use Rattle.numbers.specs.declared.Parsed.TheVariants.{Is, NoNumber, ZeroDenominator}
-use Rattle.numbers.specs.declared.MaybeParts.{MaybeParts}
-use Rattle.numbers.specs.declared.MaybeReal.{MaybeReal}
-use Rattle.numbers.specs.declared.MaybeParts.TheVariants.{NoParts, SomeParts}
+use Rattle.numbers.specs.declared.ParseError.TheVariants.{NoNumber, ZeroDenominator}
 use Rattle.numbers.specs.declared.Parts.{Parts}
 use Rattle.numbers.specs.declared.Parts.TheVariants.{Polar}
 use Rattle.numbers.specs.declared.Real.{Real}
@@ -22,8 +18,8 @@ use Rattle.laws.specs.Texts.{before}
 use Rattle.laws.proofs.Choice.{by_bool, yes_no, impossible}
 use Rattle.laws.specs.Quoted.{code}
 use Rattle.numbers_standard.specs.Grammar.{complex, number_parts, parse_standard}
-use Rattle.std.specs.Prelude.{if◌then◌else◌}
-use Rattle.numbers.specs.Grammar.{judged, parse_number, polar_of, prefix, zero_parts}
+use Rattle.std.specs.Prelude.{if◌then◌else◌, None, Option, Some, Ok, Err}
+use Rattle.numbers.specs.Grammar.{Parsed, judged, parse_number, polar_of, prefix, zero_parts}
 use Rattle.laws.specs.Letters.{lower, to_lower}
 use Rattle.numbers_standard.specs.Reals.{real}
 use Rattle.numbers_difference.proofs.WithParts.{BelowSlash, Condition, HexE, Side, Upper}
@@ -41,7 +37,7 @@ use Rattle.numbers.specs.Reals as bought
 use Rattle.numbers.specs.Grammar as bought-grammar
 
 -- <number>: what the bought reader takes apart
-unfoldable bought_parts : List ℕ → MaybeParts
+unfoldable bought_parts : List ℕ → Option Parts
 bought_parts s = if eqb (prefix s) 0 then bought-grammar.complex 10 0 s else bought-grammar.complex (prefix s) 2 (drop 2 s)
 
 number_bought : (s : List ℕ) → parse_number s ≡ judged (bought_parts s)
@@ -53,32 +49,32 @@ unfolding bought_parts
 bought_seen R g s (inl e) = rw (e.2, e.1, e.0)
 bought_seen R g s (inr e) = rw (e.1, e.3, e.2, ne_eqb R 0 e.0)
 
-judged_some : (a : Parts) → judged (SomeParts a) ≡ NoNumber → ⊥
+judged_some : (a : Parts) → judged (Some a) ≡ Err NoNumber → ⊥
 unfolding judged
 judged_some a h = by_bool (zero_parts a) (λ e. zero (rw e at h)) (λ e. is (rw e at h))
   where
-    zero : ZeroDenominator ≡ NoNumber → ⊥
+    zero : ◌≡◌ {A = Parsed} (Err ZeroDenominator) (Err NoNumber) → ⊥
     zero q = impossible cc
 
-    is : Is a ≡ NoNumber → ⊥
+    is : ◌≡◌ {A = Parsed} (Ok a) (Err NoNumber) → ⊥
     is q = impossible cc
 
-judged_none : judged NoParts ≡ NoNumber
+judged_none : judged None ≡ Err NoNumber
 unfolding judged
 judged_none = refl
 
 -- a reader that finds parts gives them, or error 8; one that finds none says "no number"
-bought_accepts : (s : List ℕ) (a : Parts) → bought_parts s ≡ SomeParts a → parse_number s ≡ NoNumber → ⊥
+bought_accepts : (s : List ℕ) (a : Parts) → bought_parts s ≡ Some a → parse_number s ≡ Err NoNumber → ⊥
 bought_accepts s a p e = judged_some a (sym (ap judged p) ∙ sym (number_bought s) ∙ e)
 
-bought_rejects : (s : List ℕ) → bought_parts s ≡ NoParts → parse_number s ≡ NoNumber
+bought_rejects : (s : List ℕ) → bought_parts s ≡ None → parse_number s ≡ Err NoNumber
 bought_rejects s p = number_bought s ∙ ap judged p ∙ judged_none
 
-standard_accepts : (s : List ℕ) (a : Parts) → number_parts s ≡ SomeParts a → parse_standard s ≡ NoNumber → ⊥
+standard_accepts : (s : List ℕ) (a : Parts) → number_parts s ≡ Some a → parse_standard s ≡ Err NoNumber → ⊥
 unfolding parse_standard
 standard_accepts s a p e = judged_some a (sym (ap judged p) ∙ e)
 
-standard_rejects : (s : List ℕ) → number_parts s ≡ NoParts → parse_standard s ≡ NoNumber
+standard_rejects : (s : List ℕ) → number_parts s ≡ None → parse_standard s ≡ Err NoNumber
 unfolding parse_standard
 standard_rejects s p = ap judged p ∙ judged_none
 
@@ -141,7 +137,7 @@ side_other : {R p : ℕ} {s : List ℕ} (x : ℕ) → Foreign x → R ≤ 16 →
 side_other x f l (Side.plain d c) = real_other x f l d
 side_other {s = s} x f l (Side.slashed d) = plain-not x f.0 s (below_plain l d)
 
-side_real : {R p : ℕ} {s : List ℕ} → R ≤ 16 → Side R p s → (r : Real) × (bought.real R p s ≡ AReal r)
+side_real : {R p : ℕ} {s : List ℕ} → R ≤ 16 → Side R p s → (r : Real) × (bought.real R p s ≡ Some r)
 side_real l (Side.plain {r = r} d c) = (r, real_low l d c)
 side_real {p = p} l (Side.slashed d) = below_real p l d
 
@@ -159,7 +155,7 @@ module _ {R : ℕ} {g a b : List ℕ} (m : Prefix R g) (x : Side R (length g) a)
   here : before (code "@") (a ++ code "@" ∷ b) ≡ length a
   here = before_here (code "@") a b (side_other (code "@") foreign_at l x)
 
-  side_bought : (c : Parts) × (bought_parts (g ++ (a ++ code "@" ∷ b)) ≡ SomeParts c)
+  side_bought : (c : Parts) × (bought_parts (g ++ (a ++ code "@" ∷ b)) ≡ Some c)
   unfolding bought-grammar.complex polar_of
   side_bought =
       let u = side_real l x in
@@ -176,17 +172,17 @@ module _ {R : ℕ} {g a b : List ℕ} (m : Prefix R g) (x : Side R (length g) a)
             ),
       )
 
-  side_standard : SignedBelow R a ⊎ SignedBelow R b → number_parts (g ++ (a ++ code "@" ∷ b)) ≡ NoParts
+  side_standard : SignedBelow R a ⊎ SignedBelow R b → number_parts (g ++ (a ++ code "@" ∷ b)) ≡ None
   unfolding complex polar_of
   side_standard w =
       parts_seen R g (a ++ code "@" ∷ b) side_seen ∙
       simp (here, lt-ltb (length a) (length (a ++ code "@" ∷ b)) (omega (arith, length-append a (code "@" ∷ b))), take-append_seam a (code "@" ∷ b), drop-append-add a (code "@" ∷ b) 1) (go w)
     where
-      second : (u : MaybeReal) → polar_of u NoReal ≡ NoParts
-      second (AReal r) = refl
-      second NoReal = refl
+      second : (u : Option Real) → polar_of u None ≡ None
+      second (Some r) = refl
+      second None = refl
 
-      go : SignedBelow R a ⊎ SignedBelow R b → polar_of (real R (length g) a) (real R (length g + length a + 1) b) ≡ NoParts
+      go : SignedBelow R a ⊎ SignedBelow R b → polar_of (real R (length g) a) (real R (length g + length a + 1) b) ≡ None
       go (inl d) = rw (below_not (length g) l d)
       go (inr d) = rw (below_not (length g + length a + 1) l d) (second (real R (length g) a))
 
@@ -204,17 +200,17 @@ module _ (s : List ℕ) (w : Split s) where
   to_capital : capital false s ≡ capital false w.t
   to_capital = ap (capital false) w.text ∙ prefix_capital w.t w.mark
 
-  read_of : (a : Parts) → bought_parts s ≡ SomeParts a → ReadC w.R (length w.g) w.t a
+  read_of : (a : Parts) → bought_parts s ≡ Some a → ReadC w.R (length w.g) w.t a
   read_of a e = complex_read w.R (length w.g) w.t a le (sym to_bought ∙ e)
 
-  read_capital : (a : Parts) → bought_parts s ≡ SomeParts a → capital false s ≡ false
+  read_capital : (a : Parts) → bought_parts s ≡ Some a → capital false s ≡ false
   read_capital a e = to_capital ∙ go (read_of a e)
     where
       go : ReadC w.R (length w.g) w.t a → capital false w.t ≡ false
       go (inl d) = d.1
       go (inr d) = d.1
 
-  read_odd : (a : Parts) → bought_parts s ≡ SomeParts a → w.R ≡ 16 → sign_after_odd_e false w.t ≡ false
+  read_odd : (a : Parts) → bought_parts s ≡ Some a → w.R ≡ 16 → sign_after_odd_e false w.t ≡ false
   read_odd a e = go (read_of a e)
     where
       go : ReadC w.R (length w.g) w.t a → w.R ≡ 16 → sign_after_odd_e false w.t ≡ false
@@ -222,7 +218,7 @@ module _ (s : List ℕ) (w : Split s) where
       go (inr d) = d.2
 
   -- the bought reader alone
-  bought_only : (a : Parts) → bought_parts s ≡ SomeParts a → number_parts s ≡ NoParts → BelowSlash s
+  bought_only : (a : Parts) → bought_parts s ≡ Some a → number_parts s ≡ None → BelowSlash s
   bought_only a e n = go (read_of a e)
     where
       go : ReadC w.R (length w.g) w.t a → BelowSlash s
@@ -240,7 +236,7 @@ module _ (s : List ℕ) (w : Split s) where
   hex_e_lem a t (Prefix.octal m) h n o = absurd (omega arith)
   hex_e_lem a t (Prefix.decimal m) h n o = absurd (omega arith)
 
-  standard_only : (a : Parts) → number_parts s ≡ SomeParts a → (bought_parts s ≡ SomeParts a) ⊎ (Upper s ⊎ HexE s)
+  standard_only : (a : Parts) → number_parts s ≡ Some a → (bought_parts s ≡ Some a) ⊎ (Upper s ⊎ HexE s)
   standard_only a e =
       by_bool (capital false s) (λ c. inr (inl (record { parts = a; number = parts_inv s a e; upper = c }))) (λ c.
       by_bool (eqb w.R 16)
@@ -249,25 +245,25 @@ module _ (s : List ℕ) (w : Split s) where
       (λ o. low c (λ _. o)))
       (λ h. low c (λ q. absurd (eqb-false w.R 16 h q))))
     where
-      low : capital false s ≡ false → (w.R ≡ 16 → sign_after_odd_e false w.t ≡ false) → (bought_parts s ≡ SomeParts a) ⊎ (Upper s ⊎ HexE s)
+      low : capital false s ≡ false → (w.R ≡ 16 → sign_after_odd_e false w.t ≡ false) → (bought_parts s ≡ Some a) ⊎ (Upper s ⊎ HexE s)
       low c o = inl (to_bought ∙ complex_low (prefix_radix w.mark) (complex_inv w.R (length w.g) w.t a le (sym to_parts ∙ e)) (sym to_capital ∙ c) o)
 
 -- the answers differ, so a condition is met
 differ_met : (s : List ℕ) → (parse_number s ≡ parse_standard s → ⊥) → Condition s
 differ_met s n = go (bought_parts s) refl (number_parts s) refl
   where
-    go : (u : MaybeParts) → bought_parts s ≡ u → (v : MaybeParts) → number_parts s ≡ v → Condition s
-    go u p (SomeParts a) q = second (standard_only s (split s) a q)
+    go : (u : Option Parts) → bought_parts s ≡ u → (v : Option Parts) → number_parts s ≡ v → Condition s
+    go u p (Some a) q = second (standard_only s (split s) a q)
       where
-        second : (bought_parts s ≡ SomeParts a) ⊎ (Upper s ⊎ HexE s) → Condition s
+        second : (bought_parts s ≡ Some a) ⊎ (Upper s ⊎ HexE s) → Condition s
         second (inl e) = absurd (n (equal_parts s (e ∙ sym q)))
         second (inr e) = inr e
-    go (SomeParts a) p NoParts q = inl (bought_only s (split s) a p q)
-    go NoParts p NoParts q = absurd (n (equal_parts s (p ∙ sym q)))
+    go (Some a) p None q = inl (bought_only s (split s) a p q)
+    go None p None q = absurd (n (equal_parts s (p ∙ sym q)))
 
 -- by the first condition the bought reader alone accepts the text
 abbrev pub BoughtAlone : List ℕ → Type 0
-BoughtAlone s = (parse_number s ≡ NoNumber → ⊥) × (parse_standard s ≡ NoNumber)
+BoughtAlone s = (parse_number s ≡ Err NoNumber → ⊥) × (parse_standard s ≡ Err NoNumber)
 
 pub below_alone : {s : List ℕ} → BelowSlash s → BoughtAlone s
 below_alone (BelowSlash.polar {g = g} {a = a} {b = b} m x y w) =
@@ -276,14 +272,14 @@ below_alone (BelowSlash.polar {g = g} {a = a} {b = b} m x y w) =
 
 -- by the other two the second reader alone does
 abbrev pub StandardAlone : List ℕ → Type 0
-StandardAlone s = (parse_standard s ≡ NoNumber → ⊥) × (parse_number s ≡ NoNumber)
+StandardAlone s = (parse_standard s ≡ Err NoNumber → ⊥) × (parse_number s ≡ Err NoNumber)
 
 upper_alone : (s : List ℕ) → Upper s → StandardAlone s
 upper_alone s u = (standard_accepts s u.parts (parts_is u.number), bought_rejects s (rejects (bought_parts s) refl))
   where
-    rejects : (v : MaybeParts) → bought_parts s ≡ v → bought_parts s ≡ NoParts
-    rejects NoParts e = e
-    rejects (SomeParts a) e = yes_no (sym u.upper ∙ read_capital s (split s) a e)
+    rejects : (v : Option Parts) → bought_parts s ≡ v → bought_parts s ≡ None
+    rejects None e = e
+    rejects (Some a) e = yes_no (sym u.upper ∙ read_capital s (split s) a e)
 
 hex_alone : {s : List ℕ} → HexE s → StandardAlone s
 hex_alone (HexE.hex_e {c = c} {s = t} {a = a} m n o) =
@@ -292,9 +288,9 @@ hex_alone (HexE.hex_e {c = c} {s = t} {a = a} m n o) =
     hexed : Split (code "#" ∷ c ∷ t)
     hexed = record { R = 16; g = code "#" ∷ c ∷ []; t = t; mark = Prefix.hex m; text = refl; look = inr ((λ e. omega arith), prefix_hash c t ∙ prefix_mark (Prefix.hex m), refl, refl) }
 
-    rejects : (v : MaybeParts) → bought_parts (code "#" ∷ c ∷ t) ≡ v → bought_parts (code "#" ∷ c ∷ t) ≡ NoParts
-    rejects NoParts e = e
-    rejects (SomeParts b) e = yes_no (sym o ∙ read_odd (code "#" ∷ c ∷ t) hexed b e refl)
+    rejects : (v : Option Parts) → bought_parts (code "#" ∷ c ∷ t) ≡ v → bought_parts (code "#" ∷ c ∷ t) ≡ None
+    rejects None e = e
+    rejects (Some b) e = yes_no (sym o ∙ read_odd (code "#" ∷ c ∷ t) hexed b e refl)
 
 pub other_alone : (s : List ℕ) → Upper s ⊎ HexE s → StandardAlone s
 other_alone s (inl c) = upper_alone s c
@@ -310,13 +306,13 @@ pub differ : (s : List ℕ) → (parse_number s ≡ parse_standard s → ⊥) �
 differ s = (differ_met s, met_differ s)
 
 -- What both readers accept has the same parts, the same places and the same error 8.
-pub same_parts : (s : List ℕ) → (parse_number s ≡ NoNumber → ⊥) → (parse_standard s ≡ NoNumber → ⊥) → parse_number s ≡ parse_standard s
+pub same_parts : (s : List ℕ) → (parse_number s ≡ Err NoNumber → ⊥) → (parse_standard s ≡ Err NoNumber → ⊥) → parse_number s ≡ parse_standard s
 same_parts s b n = go (number_parts s) refl
   where
-    second : {a : Parts} → number_parts s ≡ SomeParts a → (bought_parts s ≡ SomeParts a) ⊎ (Upper s ⊎ HexE s) → parse_number s ≡ parse_standard s
+    second : {a : Parts} → number_parts s ≡ Some a → (bought_parts s ≡ Some a) ⊎ (Upper s ⊎ HexE s) → parse_number s ≡ parse_standard s
     second q (inl e) = equal_parts s (e ∙ sym q)
     second q (inr c) = absurd (b (other_alone s c).1)
 
-    go : (v : MaybeParts) → number_parts s ≡ v → parse_number s ≡ parse_standard s
-    go (SomeParts a) q = second q (standard_only s (split s) a q)
-    go NoParts q = absurd (n (standard_rejects s q))
+    go : (v : Option Parts) → number_parts s ≡ v → parse_number s ≡ parse_standard s
+    go (Some a) q = second q (standard_only s (split s) a q)
+    go None q = absurd (n (standard_rejects s q))

@@ -10,8 +10,6 @@ use lib.Seq.{drop-append-add, drop-append_seam, drop-length, take-append_seam}
 use borrow.Author.Tests.{eq-eqb, eqb-true, lt-ltb, ltb-true, ne_eqb}
 use lib.Dec.{eqb, lit<, lit≤, ltb}
 use lib.ListN.{length, length-append}
-use Rattle.numbers.specs.declared.MaybeReal.TheVariants.{AReal, NoReal}
-use Rattle.digits.specs.declared.MaybeInt.TheVariants.{AnInt}
 use Rattle.numbers.specs.declared.Exponent.{Exponent}
 use Rattle.numbers.specs.declared.Real.TheVariants.{Integer, Rational}
 use Rattle.numbers.specs.declared.Suffix.TheVariants.{Marked}
@@ -23,7 +21,7 @@ use Rattle.laws.proofs.Choice.{by_bool, yes_no}
 use Rattle.laws.specs.Quoted.{code, within}
 use Rattle.numbers.specs.Reals.{decimal, dotted, exponent, exponent_marker, integral_of, or_else, point_of, rational_of, suffix, undotted}
 use Rattle.digits.specs.Digits.{digit_of, digits, negative, sign, span_at, whole_of}
-use Rattle.std.specs.Prelude.{if◌then◌else◌}
+use Rattle.std.specs.Prelude.{if◌then◌else◌, Some, None}
 use Rattle.numbers_standard.specs.Grammar.{imaginary}
 use Rattle.numbers_standard.specs.Reals.{infnan, ratio, real, ureal}
 use Rattle.laws.specs.Letters.{is_sign, lower}
@@ -159,7 +157,7 @@ sign_is s Sign.positive h = (refl, refl)
 sign_is s Sign.negative h = (refl, refl)
 
 -- <uinteger R>
-pub whole_is : {R : ℕ} {s : List ℕ} (neg : Bool) (p : ℕ) → UInteger R s → whole_of R neg p s ≡ AnInt (int_of R neg p s)
+pub whole_is : {R : ℕ} {s : List ℕ} (neg : Bool) (p : ℕ) → UInteger R s → whole_of R neg p s ≡ Some (int_of R neg p s)
 unfolding whole_of int_of
 whole_is neg p u = rw (uint_test u)
 
@@ -170,7 +168,7 @@ exp_is {p} (SuffixAt.exponent {c = c} {g = g} {d = d} m h u) =
     let k = sign_is d h (head_sign 10 d (lit≤ tt) (rw append-nil at (head_uint [] u))) in
     simp (marker_e m, k.0, k.1, drop-append_seam g d, uint_test u)
 
-point_is : {p : ℕ} {x : List ℕ} {e : Exponent} (neg : Bool) (w f : Span) → SuffixAt p x e → f.end ≡ p → point_of neg w f (suffix p x) ≡ AReal (pointed neg w f e)
+point_is : {p : ℕ} {x : List ℕ} {e : Exponent} (neg : Bool) (w f : Span) → SuffixAt p x e → f.end ≡ p → point_of neg w f (suffix p x) ≡ Some (pointed neg w f e)
 unfolding point_of suffix
 point_is {p} neg w f SuffixAt.empty q = rw q
 point_is neg w f (SuffixAt.exponent {c = c} {g = g} {d = d} m h u) q = rw (exp_is (SuffixAt.exponent m h u))
@@ -191,7 +189,7 @@ dot_ten : is_a_digit 10 (code ".") ≡ false
 unfolding digit_of within
 dot_ten = refl
 
-pub decimal_is : {neg : Bool} {p : ℕ} {s : List ℕ} {r : Real} → DecimalAt neg p s r → decimal neg p s ≡ AReal r
+pub decimal_is : {neg : Bool} {p : ℕ} {s : List ℕ} {r : Real} → DecimalAt neg p s r → decimal neg p s ≡ Some r
 unfolding decimal dotted undotted starts point_of
 decimal_is {neg} {p} (DecimalAt.whole {d = d} {c = c} {x = x} {e = e} u (SuffixAt.exponent {g = g} {d = y} m h v)) =
     let z : SuffixAt (p + length d) (c ∷ (g ++ y)) e = SuffixAt.exponent m h v in
@@ -209,11 +207,11 @@ decimal_is {neg} {p} (DecimalAt.both {d = d} {f = f} {x = x} {e = e} u v z) =
     (point_is neg (span_at p (length d)) (span_at (p + length d + 1) (length f)) z refl)
 
 -- digits alone, or digits and a slash, are no <decimal 10> with a dot or an exponent
-pub dec_digits : (neg : Bool) (p : ℕ) {d : List ℕ} → Digits 10 d → decimal neg p d ≡ NoReal
+pub dec_digits : (neg : Bool) (p : ℕ) {d : List ℕ} → Digits 10 d → decimal neg p d ≡ None
 unfolding decimal undotted starts suffix
 dec_digits neg p {d} h = simp (span_whole (is_a_digit 10) d (digits-all h), drop-length d)
 
-pub dec_slash : (neg : Bool) (p : ℕ) {d : List ℕ} (b : List ℕ) → Digits 10 d → decimal neg p (d ++ code "/" ∷ b) ≡ NoReal
+pub dec_slash : (neg : Bool) (p : ℕ) {d : List ℕ} (b : List ℕ) → Digits 10 d → decimal neg p (d ++ code "/" ∷ b) ≡ None
 unfolding decimal undotted starts suffix exponent_marker digit_of within
 dec_slash neg p {d} b h = simp (span_at_lem (is_a_digit 10) d (code "/") b (digits-all h) refl, drop-append_seam d (code "/" ∷ b))
 
@@ -222,12 +220,12 @@ pub digit_slash : {R : ℕ} {s : List ℕ} → R ≤ 16 → Digits R s → all (
 unfolding digit_of within
 digit_slash {R} {s} h d = all_imp (is_a_digit R) (λ c. not (eqb c (code "/"))) (λ c e. ap not (ne_eqb c (code "/") (digit_differs R c (code "/") (ltb-true (digit_of c) R e) h))) s (digits-all d)
 
-ratio_integer : {R : ℕ} {s : List ℕ} (neg : Bool) (p : ℕ) → R ≤ 16 → UInteger R s → ratio R neg p s ≡ AReal (Integer (int_of R neg p s))
+ratio_integer : {R : ℕ} {s : List ℕ} (neg : Bool) (p : ℕ) → R ≤ 16 → UInteger R s → ratio R neg p s ≡ Some (Integer (int_of R neg p s))
 unfolding ratio integral_of
 ratio_integer {R} {s} neg p h u = simp (before_none (code "/") s (digit_slash h (uint_digits u)), whole_is neg p u)
 
 ratio_rational : {R : ℕ} {a b : List ℕ} (neg : Bool) (p : ℕ) → R ≤ 16 → UInteger R a → UInteger R b
-    → ratio R neg p (a ++ code "/" ∷ b) ≡ AReal (Rational (int_of R neg p a) (int_of R false (p + length a + 1) b))
+    → ratio R neg p (a ++ code "/" ∷ b) ≡ Some (Rational (int_of R neg p a) (int_of R false (p + length a + 1) b))
 unfolding ratio rational_of
 ratio_rational {R} {a} {b} neg p h u v =
     let k : before (code "/") (a ++ code "/" ∷ b) ≡ length a = before_here (code "/") a b (digit_slash h (uint_digits u)) in
@@ -241,7 +239,7 @@ ratio_rational {R} {a} {b} neg p h u v =
     )
 
 -- <ureal R>
-ureal_is : {R : ℕ} {neg : Bool} {p : ℕ} {s : List ℕ} {r : Real} → R ≤ 16 → URealAt R neg p s r → ureal R neg p s ≡ AReal r
+ureal_is : {R : ℕ} {neg : Bool} {p : ℕ} {s : List ℕ} {r : Real} → R ≤ 16 → URealAt R neg p s r → ureal R neg p s ≡ Some r
 unfolding ureal or_else
 ureal_is {R} {neg} {p} h (URealAt.integer {s = s} u) =
     by_bool (eqb R 10)
@@ -254,18 +252,18 @@ ureal_is {R} {neg} {p} h (URealAt.rational {a = a} {b = b} u v) =
 ureal_is {R} h (URealAt.decimal e d) = simp (eq-eqb R 10 e, decimal_is d)
 
 -- <infnan>
-infnan_is : {s : List ℕ} {r : Real} → Infnan s r → infnan s ≡ AReal r
+infnan_is : {s : List ℕ} {r : Real} → Infnan s r → infnan s ≡ Some r
 unfolding infnan bought.infnan same
 infnan_is (Infnan.inf e) = rw e
 infnan_is (Infnan.minus_inf e) = rw e
 infnan_is (Infnan.nan e) = rw e
 infnan_is (Infnan.minus_nan e) = rw e
 
-infnan_first : (c : ℕ) (t : List ℕ) → (c ≡ code "+" → ⊥) → (c ≡ code "-" → ⊥) → bought.infnan (c ∷ t) ≡ NoReal
+infnan_first : (c : ℕ) (t : List ℕ) → (c ≡ code "+" → ⊥) → (c ≡ code "-" → ⊥) → bought.infnan (c ∷ t) ≡ None
 unfolding bought.infnan same
 infnan_first c t h k = simp (ne_eqb c (code "+") h, ne_eqb c (code "-") k)
 
-infnan_second : (c d : ℕ) (t : List ℕ) → (d ≡ code "i" → ⊥) → (d ≡ code "n" → ⊥) → bought.infnan (c ∷ d ∷ t) ≡ NoReal
+infnan_second : (c d : ℕ) (t : List ℕ) → (d ≡ code "i" → ⊥) → (d ≡ code "n" → ⊥) → bought.infnan (c ∷ d ∷ t) ≡ None
 unfolding bought.infnan same
 infnan_second c d t h k =
     by_bool (eqb c (code "+")) (λ e. by_bool (eqb c (code "-")) (λ f. simp (e, f, ne_eqb d (code "i") h, ne_eqb d (code "n") k)) (λ f. simp (e, f, ne_eqb d (code "i") h, ne_eqb d (code "n") k)))
@@ -276,7 +274,7 @@ unfolding digit_of within
 nodig_in x (inl e) = rw e (refl, refl)
 nodig_in x (inr e) = rw e (refl, refl)
 
-pub infnan_none : {R : ℕ} {g s : List ℕ} {n : Bool} → R ≤ 16 → Sign g n → Head R s → infnan (g ++ s) ≡ NoReal
+pub infnan_none : {R : ℕ} {g s : List ℕ} {n : Bool} → R ≤ 16 → Sign g n → Head R s → infnan (g ++ s) ≡ None
 unfolding infnan
 infnan_none {R} {s = s} h Sign.empty d = rw d.2 (infnan_first (lower d.0) (map lower d.1) (head_plus R d.0 h d.3) (head_minus R d.0 h d.3))
 infnan_none {R} {s = s} h Sign.positive d =
@@ -289,7 +287,7 @@ infnan_none {R} {s = s} h Sign.negative d =
     (head_not R d.0 (code "n") h d.3 (nodig_in (code "n") (inr refl)).0 (nodig_in (code "n") (inr refl)).1 (λ e. omega arith)))
 
 -- <real R>
-pub real_is : {R p : ℕ} {s : List ℕ} {r : Real} → R ≤ 16 → RealAt R p s r → real R p s ≡ AReal r
+pub real_is : {R p : ℕ} {s : List ℕ} {r : Real} → R ≤ 16 → RealAt R p s r → real R p s ≡ Some r
 unfolding real or_else
 real_is {R} {p} h (RealAt.ureal {g = g} {s = s} g' u) =
     let d = head_ureal u in
@@ -298,7 +296,7 @@ real_is {R} {p} h (RealAt.ureal {g = g} {s = s} g' u) =
 real_is {R} {p} h (RealAt.infnan i) = simp (infnan_is i)
 
 -- before the i
-pub imaginary_is : {R p : ℕ} {s : List ℕ} {r : Real} → R ≤ 16 → ImaginaryAt R p s r → imaginary R p s ≡ AReal r
+pub imaginary_is : {R p : ℕ} {s : List ℕ} {r : Real} → R ≤ 16 → ImaginaryAt R p s r → imaginary R p s ≡ Some r
 unfolding imaginary same
 imaginary_is {R} {p} h (ImaginaryAt.positive {s = s} u) =
     let d = head_ureal u in simp (longer s [] d) (real_is h (RealAt.ureal Sign.positive u))

@@ -7,14 +7,12 @@ use mathlib.Core.Logic.{◌⊎◌, inl, inr}
 use native.Mathlib.Omega.{arith}
 use borrow.Author.Tests.{le-ltb}
 use lib.Dec.{ltb}
-use Rattle.numbers.specs.declared.MaybeReal.TheVariants.{AReal, NoReal}
-use Rattle.numbers.specs.declared.MaybeReal.{MaybeReal}
 use Rattle.numbers.specs.declared.Real.TheVariants.{NegInf, NegNan, PosInf, PosNan}
 use Rattle.numbers.specs.declared.Real.{Real}
 use Rattle.numbers_standard.proofs.Letters.{UpperOf, lower_is}
 use Rattle.laws.proofs.Choice.{by_bool, yes_no, impossible}
 use Rattle.laws.specs.Quoted.{code, codes, within}
-use Rattle.std.specs.Prelude.{if◌then◌else◌}
+use Rattle.std.specs.Prelude.{if◌then◌else◌, None, Option, Some}
 use Rattle.numbers_standard.specs.Reals.{infnan}
 use Rattle.laws.specs.Letters.{lower}
 use Rattle.laws.specs.Texts.{same}
@@ -25,21 +23,21 @@ use Rattle.numbers_difference.proofs.Sound.{none}
 use Rattle.numbers.specs.Reals as bought
 
 -- <infnan> in lower case, and in either
-pub infnan_same : (s : List ℕ) (r : Real) → bought.infnan s ≡ AReal r → (infnan s ≡ AReal r) × (capital false s ≡ false)
+pub infnan_same : (s : List ℕ) (r : Real) → bought.infnan s ≡ Some r → (infnan s ≡ Some r) × (capital false s ≡ false)
 unfolding infnan bought.infnan same lower somewhere is_capital is_n within
 infnan_same s r h =
-    by_bool (same s (codes "+inf.0")) (λ e. let q : AReal PosInf ≡ AReal r = rw e at h in rw (same_is s (codes "+inf.0") e) (q, refl)) (λ a.
-    by_bool (same s (codes "-inf.0")) (λ e. let q : AReal NegInf ≡ AReal r = rw (a, e) at h in rw (same_is s (codes "-inf.0") e) (q, refl)) (λ b.
-    by_bool (same s (codes "+nan.0")) (λ e. let q : AReal PosNan ≡ AReal r = rw (a, b, e) at h in rw (same_is s (codes "+nan.0") e) (q, refl)) (λ c.
-    by_bool (same s (codes "-nan.0")) (λ e. let q : AReal NegNan ≡ AReal r = rw (a, b, c, e) at h in rw (same_is s (codes "-nan.0") e) (q, refl)) (λ d.
+    by_bool (same s (codes "+inf.0")) (λ e. let q : Some PosInf ≡ Some r = rw e at h in rw (same_is s (codes "+inf.0") e) (q, refl)) (λ a.
+    by_bool (same s (codes "-inf.0")) (λ e. let q : Some NegInf ≡ Some r = rw (a, e) at h in rw (same_is s (codes "-inf.0") e) (q, refl)) (λ b.
+    by_bool (same s (codes "+nan.0")) (λ e. let q : Some PosNan ≡ Some r = rw (a, b, e) at h in rw (same_is s (codes "+nan.0") e) (q, refl)) (λ c.
+    by_bool (same s (codes "-nan.0")) (λ e. let q : Some NegNan ≡ Some r = rw (a, b, c, e) at h in rw (same_is s (codes "-nan.0") e) (q, refl)) (λ d.
     none r (rw (a, b, c, d) at h)))))
 
-pub infnan_low : (s : List ℕ) → infnan s ≡ NoReal → bought.infnan s ≡ NoReal
+pub infnan_low : (s : List ℕ) → infnan s ≡ None → bought.infnan s ≡ None
 infnan_low s h = go (bought.infnan s) refl
   where
-    go : (x : MaybeReal) → bought.infnan s ≡ x → bought.infnan s ≡ NoReal
-    go NoReal e = e
-    go (AReal r) e = none r (sym h ∙ (infnan_same s r e).0)
+    go : (x : Option Real) → bought.infnan s ≡ x → bought.infnan s ≡ None
+    go None e = e
+    go (Some r) e = none r (sym h ∙ (infnan_same s r e).0)
 
 -- the letters of w in upper case would be capitals
 unfoldable lettered : Bool → List ℕ → Bool
@@ -72,7 +70,7 @@ low_exact f (c ∷ s) (x ∷ w) h e k =
     cons : c ≡ x → s ≡ w → c ∷ s ≡ x ∷ w
     cons p q = cc
 
-pub infnan_exact : {s : List ℕ} {r : Real} → Infnan s r → capital false s ≡ false → bought.infnan s ≡ AReal r
+pub infnan_exact : {s : List ℕ} {r : Real} → Infnan s r → capital false s ≡ false → bought.infnan s ≡ Some r
 unfolding lettered is_capital is_n bought.infnan same
 infnan_exact {s} (Infnan.inf e) k = rw (low_exact false s _ refl e k)
 infnan_exact {s} (Infnan.minus_inf e) k = rw (low_exact false s _ refl e k)

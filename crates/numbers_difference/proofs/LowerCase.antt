@@ -1,4 +1,5 @@
 -- What the grammar derives as <complex R> with no capital and no sign after an odd number of e's, the bought reader reads.
+use Rattle.std.proofs.Common.{Some}
 use mathlib.Core.Bool.{Bool, false, not, true}
 use mathlib.Core.List.{List, [], ◌++◌, ◌∷◌, append_assoc, append-nil}
 use Prim.Native.Nat.{◌+◌, suc, ℕ}
@@ -12,7 +13,6 @@ use borrow.Author.Tests.{eq-eqb, le-ltb, lt-ltb, ne_eqb}
 use lib.Dec.{eqb, ltb}
 use Rattle.numbers.specs.declared.Parts.{Parts}
 use Rattle.numbers.specs.declared.Real.{Real}
-use Rattle.numbers.specs.declared.MaybeParts.TheVariants.{SomeParts}
 use Rattle.numbers_standard.proofs.Letters.{UpperOf, lower_is}
 use Rattle.laws.specs.Texts.{before, span}
 use Rattle.laws.specs.Quoted.{code}
@@ -87,7 +87,7 @@ cap_part a b x g k =
     let t : capital false g.1 ≡ false = some_front is_capital is_n false g.1 x (cap_back g.0 (sign_mark g.0 g.3) a (g.1 ++ x) k') in
     ap (capital false) g.2 ∙ cap_join g.0 (sign_mark g.0 g.3) [] g.1 cap_nil t
 
-pub complex_low : {R p : ℕ} {s : List ℕ} {a : Parts} → Radix R → ComplexAt R p s a → capital false s ≡ false → (R ≡ 16 → sign_after_odd_e false s ≡ false) → bought-grammar.complex R p s ≡ SomeParts a
+pub complex_low : {R p : ℕ} {s : List ℕ} {a : Parts} → Radix R → ComplexAt R p s a → capital false s ≡ false → (R ≡ 16 → sign_after_odd_e false s ≡ false) → bought-grammar.complex R p s ≡ Some a
 unfolding bought-grammar.complex bought-grammar.rectangular bought-grammar.alone_of bought-grammar.pair_of just_of polar_of complex_of
 complex_low {R} {p} h (ComplexAt.real {s = s} {r = r} d) k o =
     let l = radix_le h in

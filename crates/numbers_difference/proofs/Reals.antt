@@ -1,4 +1,5 @@
 -- The two readers on <real R>: where they agree, and a sign below the slash.
+use Rattle.std.proofs.Common.{None, Option, Some}
 use mathlib.Core.Bool.{Bool, false, true}
 use mathlib.Core.List.{List, [], ◌++◌, ◌∷◌, append-nil}
 use Prim.Native.Nat.{◌+◌, ◌<◌, ◌≤◌, ℕ}
@@ -10,12 +11,8 @@ use lib.ListN.{drop, length, length-append, take, take-append-drop}
 use lib.Seq.{drop-append-add, drop-append_seam, length-take-le, take-append_seam}
 use borrow.Author.Tests.{eq-eqb, eqb-false, eqb-true, lt-ltb, ltb-true}
 use lib.Dec.{eqb, ltb}
-use Rattle.numbers.specs.declared.MaybeReal.TheVariants.{AReal, NoReal}
-use Rattle.digits.specs.declared.MaybeInt.TheVariants.{AnInt, NoInt}
 use Rattle.digits.specs.declared.Int.{Int}
 use Rattle.numbers.specs.declared.Real.TheVariants.{Integer, Rational}
-use Rattle.digits.specs.declared.MaybeInt.{MaybeInt}
-use Rattle.numbers.specs.declared.MaybeReal.{MaybeReal}
 use Rattle.numbers.specs.declared.Real.{Real}
 use Rattle.laws.specs.Texts.{before, starts}
 use Rattle.laws.proofs.Choice.{by_bool, yes_no}
@@ -50,25 +47,25 @@ exact_cut R neg p w x h =
     )
 
 -- a denominator with a sign, or with none
-denominator_made : {R : ℕ} {g a : List ℕ} {n : Bool} (q : ℕ) → R ≤ 16 → Sign g n → UInteger R a → denominator R q (g ++ a) ≡ AnInt (int_of R n (q + length g) a)
+denominator_made : {R : ℕ} {g a : List ℕ} {n : Bool} (q : ℕ) → R ≤ 16 → Sign g n → UInteger R a → denominator R q (g ++ a) ≡ Some (int_of R n (q + length g) a)
 unfolding denominator integer
 denominator_made {R} {g} {a} {n} q l z u =
     let k = sign_is a z (head_sign R a l (rw append-nil at (head_uint [] u))) in
     simp (k.0, k.1, drop-append_seam g a, whole_is n (q + length g) u)
 
 module _ {R : ℕ} {a : List ℕ} (n : Bool) (p : ℕ) (l : R ≤ 16) (u : UInteger R a) where
-  exact_integer : exact R n p a ≡ AReal (Integer (int_of R n p a))
+  exact_integer : exact R n p a ≡ Some (Integer (int_of R n p a))
   unfolding exact integral_of
   exact_integer = rw (before_none (code "/") a (digit_slash l (uint_digits u)), whole_is n p u)
 
   exact_ratio : {h b : List ℕ} {m : Bool} → Sign h m → UInteger R b
-      → exact R n p (a ++ code "/" ∷ (h ++ b)) ≡ AReal (Rational (int_of R n p a) (int_of R m (p + length a + 1 + length h) b))
+      → exact R n p (a ++ code "/" ∷ (h ++ b)) ≡ Some (Rational (int_of R n p a) (int_of R m (p + length a + 1 + length h) b))
   unfolding rational_of
   exact_ratio {h} {b} y v =
       exact_cut R n p a (h ++ b) (digit_slash l (uint_digits u)) ∙ rw (whole_is n p u, denominator_made (p + length a + 1) l y v)
 
 -- the bought reader on a text that the grammar derives, without capitals
-real-exact : (R p : ℕ) {g : List ℕ} (s : List ℕ) {n : Bool} {x : MaybeReal} → Sign g n → R ≤ 16 → Head R s → (R ≡ 10 → decimal n (p + length g) s ≡ NoReal)
+real-exact : (R p : ℕ) {g : List ℕ} (s : List ℕ) {n : Bool} {x : Option Real} → Sign g n → R ≤ 16 → Head R s → (R ≡ 10 → decimal n (p + length g) s ≡ None)
     → exact R n (p + length g) s ≡ x → bought.real R p (g ++ s) ≡ x
 unfolding bought.real bought.ureal or_else
 real-exact R p {g} s z l d e f =
@@ -78,7 +75,7 @@ real-exact R p {g} s z l d e f =
     (λ q. simp (infnan_low (g ++ s) (infnan_none l z d), q, k.0, k.1, drop-append_seam g s) f)
 
 -- a sign and what the grammar derives after it
-ureal_low : {R : ℕ} (p : ℕ) {g s : List ℕ} {n : Bool} {r : Real} → R ≤ 16 → Sign g n → URealAt R n (p + length g) s r → bought.real R p (g ++ s) ≡ AReal r
+ureal_low : {R : ℕ} (p : ℕ) {g s : List ℕ} {n : Bool} {r : Real} → R ≤ 16 → Sign g n → URealAt R n (p + length g) s r → bought.real R p (g ++ s) ≡ Some r
 unfolding bought.real bought.ureal or_else
 ureal_low {R} p {g} {s} {n} l z (URealAt.integer u) =
     real-exact R p s z l (rw append-nil at (head_uint [] u)) (λ q. dec_digits _ _ (rw q at (uint_digits u))) (exact_integer n (p + length g) l u)
@@ -91,7 +88,7 @@ ureal_low {R} p {g} {s} {n} {r} l z (URealAt.decimal e d) =
     let k = sign_is s z (head_sign R s l h) in
     simp (infnan_low (g ++ s) (infnan_none l z h), eq-eqb R 10 e, k.0, k.1, drop-append_seam g s, decimal_is d)
 
-pub real_low : {R p : ℕ} {s : List ℕ} {r : Real} → R ≤ 16 → RealAt R p s r → capital false s ≡ false → bought.real R p s ≡ AReal r
+pub real_low : {R p : ℕ} {s : List ℕ} {r : Real} → R ≤ 16 → RealAt R p s r → capital false s ≡ false → bought.real R p s ≡ Some r
 unfolding bought.real or_else
 real_low l (RealAt.infnan i) c = simp (infnan_exact i c)
 real_low l (RealAt.ureal z u) c = ureal_low _ l z u
@@ -108,7 +105,7 @@ sign_one : (c : ℕ) (t : List ℕ) → is_sign c ≡ true → sign (c ∷ t) �
 unfolding sign is_sign
 sign_one c t h = by_bool (eqb c (code "+")) (λ e. rw e) (λ e. by_bool (eqb c (code "-")) (λ f. rw (e, f)) (λ f. yes_no (sym (rw (e, f) at h))))
 
-denominator_inv : (R q : ℕ) (d : List ℕ) (m : Int) → denominator R q d ≡ AnInt m → UInteger R (drop (sign d) d) × (m ≡ int_of R (negative d) (q + sign d) (drop (sign d) d))
+denominator_inv : (R q : ℕ) (d : List ℕ) (m : Int) → denominator R q d ≡ Some m → UInteger R (drop (sign d) d) × (m ≡ int_of R (negative d) (q + sign d) (drop (sign d) d))
 unfolding denominator integer
 denominator_inv R q d m h = whole_inv R (negative d) (q + sign d) (drop (sign d) d) m h
 
@@ -120,7 +117,7 @@ data UnderSlash (R : ℕ) : List ℕ → Type 0 where
 abbrev ReadU : ℕ → Bool → ℕ → List ℕ → Real → Type 0
 ReadU R neg p s r = URealAt R neg p s r ⊎ UnderSlash R s
 
-module _ (R : ℕ) (neg : Bool) (p : ℕ) (w d : List ℕ) (n m : Int) (i : whole_of R neg p w ≡ AnInt n) (j : denominator R (p + length w + 1) d ≡ AnInt m) where
+module _ (R : ℕ) (neg : Bool) (p : ℕ) (w d : List ℕ) (n m : Int) (i : whole_of R neg p w ≡ Some n) (j : denominator R (p + length w + 1) d ≡ Some m) where
   over_slash : ReadU R neg p (w ++ code "/" ∷ d) (Rational n m)
   over_slash = by_bool (eqb (sign d) 0) (λ e. bare (eqb-true (sign d) 0 e)) (λ e. below (sign_signed d (eqb-false (sign d) 0 e)))
     where
@@ -144,38 +141,38 @@ module _ (R : ℕ) (neg : Bool) (p : ℕ) (w d : List ℕ) (n m : Int) (i : whol
           let v : UInteger R c.1 = rw t at b.0 in
           inr (rw c.2 (UnderSlash.under a.0 c.0 c.3 v))
 
-exact_inv : (R : ℕ) (neg : Bool) (p : ℕ) (s : List ℕ) (r : Real) → exact R neg p s ≡ AReal r → ReadU R neg p s r
+exact_inv : (R : ℕ) (neg : Bool) (p : ℕ) (s : List ℕ) (r : Real) → exact R neg p s ≡ Some r → ReadU R neg p s r
 unfolding exact rational_of integral_of
 exact_inv R neg p s r h = by_bool (ltb (before (code "/") s) (length s)) (λ e. two e _ refl _ refl (rw e at h)) (λ e. one _ refl (rw e at h))
   where
-    two : ltb (before (code "/") s) (length s) ≡ true → (x : MaybeInt) → whole_of R neg p (take (before (code "/") s) s) ≡ x
-        → (y : MaybeInt) → denominator R (p + before (code "/") s + 1) (drop (before (code "/") s + 1) s) ≡ y
-        → rational_of (whole_of R neg p (take (before (code "/") s) s)) (denominator R (p + before (code "/") s + 1) (drop (before (code "/") s + 1) s)) ≡ AReal r → ReadU R neg p s r
-    two e (AnInt n) f (AnInt m) g k =
-        let k' : AReal (Rational n m) ≡ AReal r = rw (f, g) at k in
+    two : ltb (before (code "/") s) (length s) ≡ true → (x : Option Int) → whole_of R neg p (take (before (code "/") s) s) ≡ x
+        → (y : Option Int) → denominator R (p + before (code "/") s + 1) (drop (before (code "/") s + 1) s) ≡ y
+        → rational_of (whole_of R neg p (take (before (code "/") s) s)) (denominator R (p + before (code "/") s + 1) (drop (before (code "/") s + 1) s)) ≡ Some r → ReadU R neg p s r
+    two e (Some n) f (Some m) g k =
+        let k' : Some (Rational n m) ≡ Some r = rw (f, g) at k in
         let z : r ≡ Rational n m = cc in
         let o : length (take (before (code "/") s) s) ≡ before (code "/") s = length-take-le (before (code "/") s) s (omega (arith, ltb-true (before (code "/") s) (length s) e)) in
-        let g' : denominator R (p + length (take (before (code "/") s) s) + 1) (drop (before (code "/") s + 1) s) ≡ AnInt m = rw o g in
+        let g' : denominator R (p + length (take (before (code "/") s) s) + 1) (drop (before (code "/") s + 1) s) ≡ Some m = rw o g in
         let c = over_slash R neg p (take (before (code "/") s) s) (drop (before (code "/") s + 1) s) n m f g' in
         subst (λ (y : List ℕ). ReadU R neg p y r) (sym (before_split (code "/") s e)) (rw z c)
-    two e NoInt f y g k = none r (rw f at k)
-    two e (AnInt n) f NoInt g k = none r (rw (f, g) at k)
+    two e None f y g k = none r (rw f at k)
+    two e (Some n) f None g k = none r (rw (f, g) at k)
 
-    one : (x : MaybeInt) → whole_of R neg p s ≡ x → integral_of (whole_of R neg p s) ≡ AReal r → ReadU R neg p s r
-    one (AnInt n) f k =
-        let k' : AReal (Integer n) ≡ AReal r = rw f at k in
+    one : (x : Option Int) → whole_of R neg p s ≡ x → integral_of (whole_of R neg p s) ≡ Some r → ReadU R neg p s r
+    one (Some n) f k =
+        let k' : Some (Integer n) ≡ Some r = rw f at k in
         let z : r ≡ Integer n = cc in
         let a = whole_inv R neg p s n f in
         inl (rw (z, a.1) (URealAt.integer a.0))
-    one NoInt f k = none r (rw f at k)
+    one None f k = none r (rw f at k)
 
-ureal_read : (R : ℕ) (neg : Bool) (p : ℕ) (s : List ℕ) (r : Real) → bought.ureal R neg p s ≡ AReal r → ReadU R neg p s r
+ureal_read : (R : ℕ) (neg : Bool) (p : ℕ) (s : List ℕ) (r : Real) → bought.ureal R neg p s ≡ Some r → ReadU R neg p s r
 unfolding bought.ureal or_else
 ureal_read R neg p s r h = by_bool (eqb R 10) (λ e. ten (eqb-true R 10 e) _ refl (rw e at h)) (λ e. exact_inv R neg p s r (rw e at h))
   where
-    ten : R ≡ 10 → (x : MaybeReal) → decimal neg p s ≡ x → or_else (decimal neg p s) (exact R neg p s) ≡ AReal r → ReadU R neg p s r
-    ten q (AReal x) f k = let k' : AReal x ≡ AReal r = rw f at k in inl (URealAt.decimal q (decimal_inv neg p s r (f ∙ k')))
-    ten q NoReal f k = exact_inv R neg p s r (rw f at k)
+    ten : R ≡ 10 → (x : Option Real) → decimal neg p s ≡ x → or_else (decimal neg p s) (exact R neg p s) ≡ Some r → ReadU R neg p s r
+    ten q (Some x) f k = let k' : Some x ≡ Some r = rw f at k in inl (URealAt.decimal q (decimal_inv neg p s r (f ∙ k')))
+    ten q None f k = exact_inv R neg p s r (rw f at k)
 
 -- a text without capitals that the grammar derives, or a sign below the slash
 abbrev pub Read : ℕ → ℕ → List ℕ → Real → Type 0
@@ -189,42 +186,42 @@ module _ {R p : ℕ} {g s : List ℕ} {n : Bool} {r : Real} (l : R ≤ 16) (z : 
       go : {s : List ℕ} → UnderSlash R s → SignedBelow R (g ++ s)
       go (UnderSlash.under u c e v) = SignedBelow.ratio z u c e v
 
-pub real_read : (R p : ℕ) (s : List ℕ) (r : Real) → R ≤ 16 → bought.real R p s ≡ AReal r → Read R p s r
+pub real_read : (R p : ℕ) (s : List ℕ) (r : Real) → R ≤ 16 → bought.real R p s ≡ Some r → Read R p s r
 unfolding bought.real or_else
 real_read R p s r l h = go (bought.infnan s) refl h
   where
-    go : (x : MaybeReal) → bought.infnan s ≡ x → or_else (bought.infnan s) (bought.ureal R (negative s) (p + sign s) (drop (sign s) s)) ≡ AReal r → Read R p s r
-    go (AReal x) e k =
-        let k' : AReal x ≡ AReal r = rw e at k in
+    go : (x : Option Real) → bought.infnan s ≡ x → or_else (bought.infnan s) (bought.ureal R (negative s) (p + sign s) (drop (sign s) s)) ≡ Some r → Read R p s r
+    go (Some x) e k =
+        let k' : Some x ≡ Some r = rw e at k in
         let q = infnan_same s r (e ∙ k') in
         inl (RealAt.infnan (infnan_inv s r q.0), q.1)
-    go NoReal e k =
+    go None e k =
         let u : ReadU R (negative s) (p + length (take (sign s) s)) (drop (sign s) s) r = rw (sign-length s) (ureal_read R (negative s) (p + sign s) (drop (sign s) s) r (rw e at k)) in
         rw (take-append-drop (sign s) s) at (real_after l (sign_inv s) u)
 
 -- a sign below the slash: the bought reader takes it, the second does not
-pub below_real : {R : ℕ} {s : List ℕ} (p : ℕ) → R ≤ 16 → SignedBelow R s → (r : Real) × (bought.real R p s ≡ AReal r)
+pub below_real : {R : ℕ} {s : List ℕ} (p : ℕ) → R ≤ 16 → SignedBelow R s → (r : Real) × (bought.real R p s ≡ Some r)
 unfolding is_sign
 below_real {R} p l (SignedBelow.ratio {g = g} {a = a} {b = b} {n = n} z u c e v) =
     by_bool (eqb c (code "+"))
     (λ f. let q : c ≡ code "+" = eqb-true c (code "+") f in rw q (made Sign.positive))
     (λ f. let q : c ≡ code "-" = minus_is f e in rw q (made Sign.negative))
   where
-    made : {h : List ℕ} {m : Bool} → Sign h m → (r : Real) × (bought.real R p (g ++ (a ++ code "/" ∷ (h ++ b))) ≡ AReal r)
+    made : {h : List ℕ} {m : Bool} → Sign h m → (r : Real) × (bought.real R p (g ++ (a ++ code "/" ∷ (h ++ b))) ≡ Some r)
     made {h} y = (_, real-exact R p (a ++ code "/" ∷ (h ++ b)) z l (head_uint (code "/" ∷ (h ++ b)) u) (λ q. dec_slash _ _ (h ++ b) (rw q at (uint_digits u))) (exact_ratio n (p + length g) l u y v))
 
     minus_is : eqb c (code "+") ≡ false → is_sign c ≡ true → c ≡ code "-"
     minus_is f e = eqb-true c (code "-") (rw f at e)
 
-whole_sign : (R q c : ℕ) (b : List ℕ) → R ≤ 16 → is_sign c ≡ true → whole_of R false q (c ∷ b) ≡ NoInt
+whole_sign : (R q c : ℕ) (b : List ℕ) → R ≤ 16 → is_sign c ≡ true → whole_of R false q (c ∷ b) ≡ None
 whole_sign R q c b l e = go (whole_of R false q (c ∷ b)) refl
   where
     uint_head : UInteger R (c ∷ b) → digit_of c < R
     uint_head (UInteger.uint h d) = h
 
-    go : (x : MaybeInt) → whole_of R false q (c ∷ b) ≡ x → whole_of R false q (c ∷ b) ≡ NoInt
-    go NoInt f = f
-    go (AnInt n) f = yes_no (sym e ∙ digit_sign R c l (uint_head (whole_inv R false q (c ∷ b) n f).0))
+    go : (x : Option Int) → whole_of R false q (c ∷ b) ≡ x → whole_of R false q (c ∷ b) ≡ None
+    go None f = f
+    go (Some n) f = yes_no (sym e ∙ digit_sign R c l (uint_head (whole_inv R false q (c ∷ b) n f).0))
 
 ratio_cut : (R : ℕ) (neg : Bool) (p : ℕ) (w x : List ℕ) → all (other (code "/")) w ≡ true → ratio R neg p (w ++ code "/" ∷ x) ≡ rational_of (whole_of R neg p w) (whole_of R false (p + length w + 1) x)
 unfolding ratio
@@ -236,11 +233,11 @@ ratio_cut R neg p w x h =
       drop-append-add w (code "/" ∷ x) 1,
     )
 
-ratio_below : {R : ℕ} {a : List ℕ} (n : Bool) (p c : ℕ) (b : List ℕ) → R ≤ 16 → UInteger R a → is_sign c ≡ true → ratio R n p (a ++ code "/" ∷ c ∷ b) ≡ NoReal
+ratio_below : {R : ℕ} {a : List ℕ} (n : Bool) (p c : ℕ) (b : List ℕ) → R ≤ 16 → UInteger R a → is_sign c ≡ true → ratio R n p (a ++ code "/" ∷ c ∷ b) ≡ None
 unfolding rational_of
 ratio_below {R} {a} n p c b l u e = rw (ratio_cut R n p a (c ∷ b) (digit_slash l (uint_digits u)), whole_is n p u, whole_sign R (p + length a + 1) c b l e)
 
-pub below_not : {R : ℕ} {s : List ℕ} (p : ℕ) → R ≤ 16 → SignedBelow R s → real R p s ≡ NoReal
+pub below_not : {R : ℕ} {s : List ℕ} (p : ℕ) → R ≤ 16 → SignedBelow R s → real R p s ≡ None
 unfolding real or_else ureal
 below_not {R} p l (SignedBelow.ratio {g = g} {a = a} {b = b} {n = n} z u c e v) =
     let h = head_uint (code "/" ∷ c ∷ b) u in

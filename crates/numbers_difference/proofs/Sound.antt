@@ -1,4 +1,5 @@
 -- What the second reader reads, the grammar derives: up to <real R>.
+use Rattle.std.proofs.Common.{None, Option, Some}
 use mathlib.Core.Bool.{Bool, false, true}
 use mathlib.Core.List.{List, [], ◌++◌, ◌∷◌, map}
 use Prim.Native.Nat.{◌+◌, ◌≤◌, suc, ℕ}
@@ -9,14 +10,10 @@ use lib.ListN.{drop, length, take, take-append-drop}
 use lib.Seq.{drop-drop, length-take-le}
 use lib.Dec.{eqb, ltb}
 use borrow.Author.Tests.{eqb-false, eqb-true, ltb-true}
-use Rattle.numbers.specs.declared.MaybeReal.TheVariants.{AReal, NoReal}
-use Rattle.digits.specs.declared.MaybeInt.TheVariants.{AnInt, NoInt}
 use Rattle.numbers.specs.declared.Suffix.TheVariants.{Bad, Empty, Marked}
 use Rattle.numbers.specs.declared.Exponent.{Exponent}
 use Rattle.numbers.specs.declared.Real.TheVariants.{ImpliedOne, Integer, NegInf, NegNan, PosInf, PosNan, Rational}
 use Rattle.digits.specs.declared.Int.{Int}
-use Rattle.digits.specs.declared.MaybeInt.{MaybeInt}
-use Rattle.numbers.specs.declared.MaybeReal.{MaybeReal}
 use Rattle.numbers.specs.declared.Real.{Real}
 use Rattle.digits.specs.declared.Span.{Span}
 use Rattle.numbers.specs.declared.Suffix.{Suffix}
@@ -37,19 +34,19 @@ use Rattle.numbers_difference.proofs.Derived.{head_sign, head_ureal}
 use Rattle.numbers.specs.Reals as bought
 
 -- no real is one
-pub none : {A : Type 0} (r : Real) → NoReal ≡ AReal r → A
+pub none : {A : Type 0} (r : Real) → None ≡ Some r → A
 none r e = impossible cc
 
 -- <uinteger R>
-pub whole_inv : (R : ℕ) (neg : Bool) (p : ℕ) (s : List ℕ) (n : Int) → whole_of R neg p s ≡ AnInt n → UInteger R s × (n ≡ int_of R neg p s)
+pub whole_inv : (R : ℕ) (neg : Bool) (p : ℕ) (s : List ℕ) (n : Int) → whole_of R neg p s ≡ Some n → UInteger R s × (n ≡ int_of R neg p s)
 unfolding whole_of int_of
 whole_inv R neg p s n h =
     by_bool (uinteger R s) (λ e. (test_uint R s e, an (rw e at h))) (λ e. bad (rw e at h))
   where
-    an : AnInt (int_of R neg p s) ≡ AnInt n → n ≡ int_of R neg p s
+    an : Some (int_of R neg p s) ≡ Some n → n ≡ int_of R neg p s
     an q = cc
 
-    bad : {A : Type 0} → NoInt ≡ AnInt n → A
+    bad : {A : Type 0} → None ≡ Some n → A
     bad q = impossible cc
 
 -- <sign>
@@ -120,11 +117,11 @@ suffix_empty p (c ∷ t) h =
 abbrev Pointed : Bool → Span → Span → ℕ → List ℕ → Real → Type 0
 Pointed neg w f p x r = (e : Exponent) × SuffixAt p x e × (r ≡ pointed neg w f e)
 
-point_inv : (neg : Bool) (w f : Span) (p : ℕ) (x : List ℕ) (r : Real) → f.end ≡ p → point_of neg w f (suffix p x) ≡ AReal r → Pointed neg w f p x r
+point_inv : (neg : Bool) (w f : Span) (p : ℕ) (x : List ℕ) (r : Real) → f.end ≡ p → point_of neg w f (suffix p x) ≡ Some r → Pointed neg w f p x r
 unfolding point_of
 point_inv neg w f p x r q h = go (suffix p x) refl h
   where
-    go : (z : Suffix) → suffix p x ≡ z → point_of neg w f z ≡ AReal r → Pointed neg w f p x r
+    go : (z : Suffix) → suffix p x ≡ z → point_of neg w f z ≡ Some r → Pointed neg w f p x r
     go Empty i j = let k : r ≡ pointed neg w f (none_at f.end) = cc in (none_at p, suffix_empty p x i, rw (← q) k)
     go (Marked e) i j = let k : r ≡ pointed neg w f e = cc in (e, suffix_inv p x e i, k)
     go Bad i j = none r j
@@ -140,7 +137,7 @@ run t = all_digits 10 (take (digits 10 t) t) (span_is (is_a_digit 10) t)
 run_length : (t : List ℕ) → length (take (digits 10 t) t) ≡ digits 10 t
 run_length t = length-take-le (digits 10 t) t (span_le (is_a_digit 10) t)
 
-dotted_inv : (neg : Bool) (p : ℕ) {D : List ℕ} → Digits 10 D → (t : List ℕ) (r : Real) → dotted neg p (length D) (p + length D + 1) t ≡ AReal r → DecimalAt neg p (D ++ code "." ∷ t) r
+dotted_inv : (neg : Bool) (p : ℕ) {D : List ℕ} → Digits 10 D → (t : List ℕ) (r : Real) → dotted neg p (length D) (p + length D + 1) t ≡ Some r → DecimalAt neg p (D ++ code "." ∷ t) r
 unfolding dotted
 dotted_inv neg p Digits.none t r h =
     by_bool (eqb (0 + digits 10 t) 0) (λ e. none r (rw e at h)) (λ e. good e (rw e at h))
@@ -155,9 +152,9 @@ dotted_inv neg p Digits.none t r h =
         rw (take-append-drop (digits 10 t) t, run_length t) at b
 
     good : eqb (0 + digits 10 t) 0 ≡ false → point_of neg (span_at p 0)
-        (span_at (p + 0 + 1) (digits 10 t)) (suffix (p + 0 + 1 + digits 10 t) (drop (digits 10 t) t)) ≡ AReal r → DecimalAt neg p (code "." ∷ t) r
+        (span_at (p + 0 + 1) (digits 10 t)) (suffix (p + 0 + 1 + digits 10 t) (drop (digits 10 t) t)) ≡ Some r → DecimalAt neg p (code "." ∷ t) r
     good e k =
-        let k' : point_of neg (record { start = p; end = p }) (span_at (p + 1) (digits 10 t)) (suffix (p + 1 + digits 10 t) (drop (digits 10 t) t)) ≡ AReal r = simp (add-zero p) at k in
+        let k' : point_of neg (record { start = p; end = p }) (span_at (p + 1) (digits 10 t)) (suffix (p + 1 + digits 10 t) (drop (digits 10 t) t)) ≡ Some r = simp (add-zero p) at k in
         let i = point_inv neg (record { start = p; end = p }) (span_at (p + 1) (digits 10 t)) (p + 1 + digits 10 t) (drop (digits 10 t) t) r refl k' in
         rw i.2 (made i.0 e i.1)
 dotted_inv neg p (Digits.more {c = c} {s = s} d ds) t r h =
@@ -173,7 +170,7 @@ dotted_inv neg p (Digits.more {c = c} {s = s} d ds) t r h =
         rw (take-append-drop (digits 10 t) t, run_length t) at b
 
     good : point_of neg (span_at p (suc (length s))) (span_at (p + suc (length s) + 1) (digits 10 t))
-        (suffix (p + suc (length s) + 1 + digits 10 t) (drop (digits 10 t) t)) ≡ AReal r → DecimalAt neg p (c ∷ (s ++ code "." ∷ t)) r
+        (suffix (p + suc (length s) + 1 + digits 10 t) (drop (digits 10 t) t)) ≡ Some r → DecimalAt neg p (c ∷ (s ++ code "." ∷ t)) r
     good k =
         let i = point_inv neg (span_at p (suc (length s))) (span_at (p + suc (length s) + 1) (digits 10 t)) (p + suc (length s) + 1 + digits 10 t) (drop (digits 10 t) t) r refl k in
         rw i.2 (made i.0 i.1)
@@ -182,54 +179,54 @@ suffix_nil : {A : Type 0} (p : ℕ) {e : Exponent} → suffix p [] ≡ Marked e 
 unfolding suffix
 suffix_nil p h = impossible cc
 
-undotted_inv : (neg : Bool) (p : ℕ) {D : List ℕ} → Digits 10 D → (t : List ℕ) (r : Real) → undotted neg p (length D) (suffix (p + length D) t) ≡ AReal r → DecimalAt neg p (D ++ t) r
+undotted_inv : (neg : Bool) (p : ℕ) {D : List ℕ} → Digits 10 D → (t : List ℕ) (r : Real) → undotted neg p (length D) (suffix (p + length D) t) ≡ Some r → DecimalAt neg p (D ++ t) r
 unfolding undotted point_of
 undotted_inv neg p {D} d t r h = go t (suffix (p + length D) t) refl h
   where
-    ok : (c : ℕ) (x : List ℕ) (e : Exponent) → suffix (p + length D) (c ∷ x) ≡ Marked e → (eqb (length D) 0 ≡ false) → undotted neg p (length D) (Marked e) ≡ AReal r → DecimalAt neg p (D ++ c ∷ x) r
+    ok : (c : ℕ) (x : List ℕ) (e : Exponent) → suffix (p + length D) (c ∷ x) ≡ Marked e → (eqb (length D) 0 ≡ false) → undotted neg p (length D) (Marked e) ≡ Some r → DecimalAt neg p (D ++ c ∷ x) r
     ok c x e i f j =
-        let k : AReal (pointed neg (span_at p (length D)) (record { start = p + length D; end = p + length D }) e) ≡ AReal r = rw f at j in
+        let k : Some (pointed neg (span_at p (length D)) (record { start = p + length D; end = p + length D }) e) ≡ Some r = rw f at j in
         let l : r ≡ pointed neg (span_at p (length D)) (record { start = p + length D; end = p + length D }) e = cc in
         rw l (DecimalAt.whole (digits_uint d (λ q. eqb-false (length D) 0 f (ap length q))) (suffix_inv (p + length D) (c ∷ x) e i))
 
-    go : (t : List ℕ) (z : Suffix) → suffix (p + length D) t ≡ z → undotted neg p (length D) z ≡ AReal r → DecimalAt neg p (D ++ t) r
+    go : (t : List ℕ) (z : Suffix) → suffix (p + length D) t ≡ z → undotted neg p (length D) z ≡ Some r → DecimalAt neg p (D ++ t) r
     go t Empty i j = none r j
     go t Bad i j = none r j
     go [] (Marked e) i j = suffix_nil (p + length D) i
     go (c ∷ x) (Marked e) i j = by_bool (eqb (length D) 0) (λ f. none r (rw f at j)) (λ f. ok c x e i f j)
 
-pub decimal_inv : (neg : Bool) (p : ℕ) (s : List ℕ) (r : Real) → decimal neg p s ≡ AReal r → DecimalAt neg p s r
+pub decimal_inv : (neg : Bool) (p : ℕ) (s : List ℕ) (r : Real) → decimal neg p s ≡ Some r → DecimalAt neg p s r
 unfolding decimal starts
 decimal_inv neg p s r h =
     by_bool (starts (code ".") (drop (digits 10 s) s)) (λ e. dots (drop (digits 10 s) s) refl e (rw e at h)) (λ e. dotless (rw e at h))
   where
     dots : (x : List ℕ) → drop (digits 10 s) s ≡ x → starts (code ".") (drop (digits 10 s) s) ≡ true
-        → dotted neg p (digits 10 s) (p + digits 10 s + 1) (drop (digits 10 s + 1) s) ≡ AReal r → DecimalAt neg p s r
+        → dotted neg p (digits 10 s) (p + digits 10 s + 1) (drop (digits 10 s + 1) s) ≡ Some r → DecimalAt neg p s r
     dots [] q e k = yes_no (sym (rw q at e))
     dots (c ∷ x) q e k =
         let c-dot : c ≡ code "." = eqb-true c (code ".") (rw q at e) in
         let after : drop (digits 10 s + 1) s ≡ x = sym (drop-drop 1 (digits 10 s) s) ∙ ap (drop 1) q in
-        let k' : dotted neg p (length (take (digits 10 s) s)) (p + length (take (digits 10 s) s) + 1) x ≡ AReal r = rw (run_length s, ← after) k in
+        let k' : dotted neg p (length (take (digits 10 s) s)) (p + length (take (digits 10 s) s) + 1) x ≡ Some r = rw (run_length s, ← after) k in
         let whole : take (digits 10 s) s ++ code "." ∷ x ≡ s = ap (λ (y : List ℕ). take (digits 10 s) s ++ y) (ap (λ (y : ℕ). y ∷ x) (sym c-dot) ∙ sym q) ∙ take-append-drop (digits 10 s) s in
         rw whole at (dotted_inv neg p (run s) x r k')
 
-    dotless : undotted neg p (digits 10 s) (suffix (p + digits 10 s) (drop (digits 10 s) s)) ≡ AReal r → DecimalAt neg p s r
+    dotless : undotted neg p (digits 10 s) (suffix (p + digits 10 s) (drop (digits 10 s) s)) ≡ Some r → DecimalAt neg p s r
     dotless k =
-        let k' : undotted neg p (length (take (digits 10 s) s)) (suffix (p + length (take (digits 10 s) s)) (drop (digits 10 s) s)) ≡ AReal r = rw (run_length s) k in
+        let k' : undotted neg p (length (take (digits 10 s) s)) (suffix (p + length (take (digits 10 s) s)) (drop (digits 10 s) s)) ≡ Some r = rw (run_length s) k in
         rw (take-append-drop (digits 10 s) s) at (undotted_inv neg p (run s) (drop (digits 10 s) s) r k')
 
 -- <uinteger R> | <uinteger R> / <uinteger R>
-ratio_inv : (R : ℕ) (neg : Bool) (p : ℕ) (s : List ℕ) (r : Real) → ratio R neg p s ≡ AReal r → URealAt R neg p s r
+ratio_inv : (R : ℕ) (neg : Bool) (p : ℕ) (s : List ℕ) (r : Real) → ratio R neg p s ≡ Some r → URealAt R neg p s r
 unfolding ratio rational_of integral_of
 ratio_inv R neg p s r h = by_bool (ltb (before (code "/") s) (length s)) (λ e. two e _ refl _ refl (rw e at h)) (λ e. one _ refl (rw e at h))
   where
     k : ℕ
     k = before (code "/") s
 
-    two : ltb (before (code "/") s) (length s) ≡ true → (x : MaybeInt) → whole_of R neg p (take (before (code "/") s) s) ≡ x
-        → (y : MaybeInt) → whole_of R false (p + before (code "/") s + 1) (drop (before (code "/") s + 1) s) ≡ y
-        → rational_of (whole_of R neg p (take (before (code "/") s) s)) (whole_of R false (p + before (code "/") s + 1) (drop (before (code "/") s + 1) s)) ≡ AReal r → URealAt R neg p s r
-    two e (AnInt n) f (AnInt d) g j =
+    two : ltb (before (code "/") s) (length s) ≡ true → (x : Option Int) → whole_of R neg p (take (before (code "/") s) s) ≡ x
+        → (y : Option Int) → whole_of R false (p + before (code "/") s + 1) (drop (before (code "/") s + 1) s) ≡ y
+        → rational_of (whole_of R neg p (take (before (code "/") s) s)) (whole_of R false (p + before (code "/") s + 1) (drop (before (code "/") s + 1) s)) ≡ Some r → URealAt R neg p s r
+    two e (Some n) f (Some d) g j =
         let a = whole_inv R neg p (take (before (code "/") s) s) n f in
         let b = whole_inv R false (p + before (code "/") s + 1) (drop (before (code "/") s + 1) s) d g in
         let l : length (take (before (code "/") s) s) ≡ before (code "/") s = length-take-le (before (code "/") s) s (omega (arith, ltb-true (before (code "/") s) (length s) e)) in
@@ -242,48 +239,48 @@ ratio_inv R neg p s r h = by_bool (ltb (before (code "/") s) (length s)) (λ e. 
         (int_of R false (p + length (take (before (code "/") s) s) + 1) (drop (before (code "/") s + 1) s)))) (sym (before_split (code "/") s e)) u in
         rw (q, a.1, b.1) (rw l at v)
       where
-        unr : {n d : Int} → AReal (Rational n d) ≡ AReal r → Rational n d ≡ r
+        unr : {n d : Int} → Some (Rational n d) ≡ Some r → Rational n d ≡ r
         unr j = cc
-    two e NoInt f y g j = none r (rw f at j)
-    two e (AnInt n) f NoInt g j = none r (rw (f, g) at j)
+    two e None f y g j = none r (rw f at j)
+    two e (Some n) f None g j = none r (rw (f, g) at j)
 
-    one : (x : MaybeInt) → whole_of R neg p s ≡ x → integral_of (whole_of R neg p s) ≡ AReal r → URealAt R neg p s r
-    one (AnInt n) f j =
+    one : (x : Option Int) → whole_of R neg p s ≡ x → integral_of (whole_of R neg p s) ≡ Some r → URealAt R neg p s r
+    one (Some n) f j =
         let a = whole_inv R neg p s n f in
-        let j' : AReal (Integer n) ≡ AReal r = rw f at j in
+        let j' : Some (Integer n) ≡ Some r = rw f at j in
         let q : r ≡ Integer n = cc in
         rw (q, a.1) (URealAt.integer a.0)
-    one NoInt f j = none r (rw f at j)
+    one None f j = none r (rw f at j)
 
 -- <ureal R>
-ureal_inv : (R : ℕ) (neg : Bool) (p : ℕ) (s : List ℕ) (r : Real) → ureal R neg p s ≡ AReal r → URealAt R neg p s r
+ureal_inv : (R : ℕ) (neg : Bool) (p : ℕ) (s : List ℕ) (r : Real) → ureal R neg p s ≡ Some r → URealAt R neg p s r
 unfolding ureal or_else
 ureal_inv R neg p s r h = by_bool (eqb R 10) (λ e. ten (eqb-true R 10 e) _ refl (rw e at h)) (λ e. ratio_inv R neg p s r (rw e at h))
   where
-    ten : R ≡ 10 → (d : MaybeReal) → decimal neg p s ≡ d → or_else (decimal neg p s) (ratio R neg p s) ≡ AReal r → URealAt R neg p s r
-    ten e (AReal x) f j =
-        let j' : AReal x ≡ AReal r = rw f at j in
+    ten : R ≡ 10 → (d : Option Real) → decimal neg p s ≡ d → or_else (decimal neg p s) (ratio R neg p s) ≡ Some r → URealAt R neg p s r
+    ten e (Some x) f j =
+        let j' : Some x ≡ Some r = rw f at j in
         URealAt.decimal e (decimal_inv neg p s r (f ∙ j'))
-    ten e NoReal f j = ratio_inv R neg p s r (rw f at j)
+    ten e None f j = ratio_inv R neg p s r (rw f at j)
 
 -- <infnan>
-pub infnan_inv : (s : List ℕ) (r : Real) → infnan s ≡ AReal r → Infnan s r
+pub infnan_inv : (s : List ℕ) (r : Real) → infnan s ≡ Some r → Infnan s r
 unfolding infnan bought.infnan
 infnan_inv s r h =
-    by_bool (same (map lower s) (codes "+inf.0")) (λ e. let q : AReal PosInf ≡ AReal r = rw e at h in let z : r ≡ PosInf = cc in rw z (Infnan.inf (same_is _ _ e))) (λ a.
-    by_bool (same (map lower s) (codes "-inf.0")) (λ e. let q : AReal NegInf ≡ AReal r = rw (a, e) at h in let z : r ≡ NegInf = cc in rw z (Infnan.minus_inf (same_is _ _ e))) (λ b.
-    by_bool (same (map lower s) (codes "+nan.0")) (λ e. let q : AReal PosNan ≡ AReal r = rw (a, b, e) at h in let z : r ≡ PosNan = cc in rw z (Infnan.nan (same_is _ _ e))) (λ c.
-    by_bool (same (map lower s) (codes "-nan.0")) (λ e. let q : AReal NegNan ≡ AReal r = rw (a, b, c, e) at h in let z : r ≡ NegNan = cc in rw z (Infnan.minus_nan (same_is _ _ e))) (λ d.
+    by_bool (same (map lower s) (codes "+inf.0")) (λ e. let q : Some PosInf ≡ Some r = rw e at h in let z : r ≡ PosInf = cc in rw z (Infnan.inf (same_is _ _ e))) (λ a.
+    by_bool (same (map lower s) (codes "-inf.0")) (λ e. let q : Some NegInf ≡ Some r = rw (a, e) at h in let z : r ≡ NegInf = cc in rw z (Infnan.minus_inf (same_is _ _ e))) (λ b.
+    by_bool (same (map lower s) (codes "+nan.0")) (λ e. let q : Some PosNan ≡ Some r = rw (a, b, e) at h in let z : r ≡ PosNan = cc in rw z (Infnan.nan (same_is _ _ e))) (λ c.
+    by_bool (same (map lower s) (codes "-nan.0")) (λ e. let q : Some NegNan ≡ Some r = rw (a, b, c, e) at h in let z : r ≡ NegNan = cc in rw z (Infnan.minus_nan (same_is _ _ e))) (λ d.
     none r (rw (a, b, c, d) at h)))))
 
 -- <real R>
-pub real_inv : (R p : ℕ) (s : List ℕ) (r : Real) → real R p s ≡ AReal r → RealAt R p s r
+pub real_inv : (R p : ℕ) (s : List ℕ) (r : Real) → real R p s ≡ Some r → RealAt R p s r
 unfolding real or_else
 real_inv R p s r h = go (infnan s) refl h
   where
-    go : (x : MaybeReal) → infnan s ≡ x → or_else (infnan s) (ureal R (negative s) (p + sign s) (drop (sign s) s)) ≡ AReal r → RealAt R p s r
-    go (AReal x) e j = let j' : AReal x ≡ AReal r = rw e at j in RealAt.infnan (infnan_inv s r (e ∙ j'))
-    go NoReal e j =
+    go : (x : Option Real) → infnan s ≡ x → or_else (infnan s) (ureal R (negative s) (p + sign s) (drop (sign s) s)) ≡ Some r → RealAt R p s r
+    go (Some x) e j = let j' : Some x ≡ Some r = rw e at j in RealAt.infnan (infnan_inv s r (e ∙ j'))
+    go None e j =
         let u : URealAt R (negative s) (p + sign s) (drop (sign s) s) r = ureal_inv R (negative s) (p + sign s) (drop (sign s) s) r (rw e at j) in
         let u' : URealAt R (negative s) (p + length (take (sign s) s)) (drop (sign s) s) r = rw (sign-length s) u in
         let b : RealAt R p (take (sign s) s ++ drop (sign s) s) r = RealAt.ureal (sign_inv s) u' in
@@ -296,9 +293,9 @@ real_imaginary h (RealAt.ureal Sign.positive u) n = ImaginaryAt.positive u
 real_imaginary h (RealAt.ureal Sign.negative u) n = ImaginaryAt.negative u
 real_imaginary h (RealAt.infnan i) n = ImaginaryAt.infnan i
 
-pub imaginary_inv : (R p : ℕ) (s : List ℕ) (r : Real) → R ≤ 16 → (sign s ≡ 0 → ⊥) → imaginary R p s ≡ AReal r → ImaginaryAt R p s r
+pub imaginary_inv : (R p : ℕ) (s : List ℕ) (r : Real) → R ≤ 16 → (sign s ≡ 0 → ⊥) → imaginary R p s ≡ Some r → ImaginaryAt R p s r
 unfolding imaginary
 imaginary_inv R p s r l n h =
-    by_bool (same s (code "+" ∷ [])) (λ e. let q : AReal (ImpliedOne false) ≡ AReal r = rw e at h in let z : r ≡ ImpliedOne false = cc in rw (z, same_is s _ e) ImaginaryAt.one) (λ a.
-    by_bool (same s (code "-" ∷ [])) (λ e. let q : AReal (ImpliedOne true) ≡ AReal r = rw (a, e) at h in let z : r ≡ ImpliedOne true = cc in rw (z, same_is s _ e) ImaginaryAt.minus_one) (λ b.
+    by_bool (same s (code "+" ∷ [])) (λ e. let q : Some (ImpliedOne false) ≡ Some r = rw e at h in let z : r ≡ ImpliedOne false = cc in rw (z, same_is s _ e) ImaginaryAt.one) (λ a.
+    by_bool (same s (code "-" ∷ [])) (λ e. let q : Some (ImpliedOne true) ≡ Some r = rw (a, e) at h in let z : r ≡ ImpliedOne true = cc in rw (z, same_is s _ e) ImaginaryAt.minus_one) (λ b.
     real_imaginary l (real_inv R p s r (rw (a, b) at h)) n))

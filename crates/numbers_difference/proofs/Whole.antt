@@ -10,11 +10,8 @@ use lib.ListN.{drop, length, length-append, length-map, take, take-append-drop}
 use lib.Seq.{drop-append-add, drop-append_seam, drop_at, length-take-le, take-append_seam, take_at}
 use borrow.Author.Tests.{eq-eqb, eqb-false, eqb-true, le-ltb, lt-ltb, ltb-true, ne_eqb}
 use lib.Dec.{eqb, lit≤, ltb}
-use Rattle.numbers.specs.declared.MaybeReal.TheVariants.{AReal, NoReal}
 use Rattle.numbers.specs.declared.Parts.TheVariants.{Complex, Just, Polar}
 use Rattle.numbers.specs.declared.Real.TheVariants.{ImpliedZero}
-use Rattle.numbers.specs.declared.MaybeReal.{MaybeReal}
-use Rattle.numbers.specs.declared.MaybeParts.TheVariants.{NoParts, SomeParts}
 use Rattle.numbers.specs.declared.Parts.{Parts}
 use Rattle.numbers.specs.declared.Real.{Real}
 use Rattle.numbers_standard.proofs.Letters.{UpperOf, lower_is}
@@ -25,7 +22,7 @@ use Rattle.laws.specs.Quoted.{code, within}
 use Rattle.numbers.specs.Grammar.{complex_of, init, just_of, polar_of, prefix, radix_mark, to_sign}
 use Rattle.digits.specs.Digits.{digit_of, sign}
 use Rattle.numbers.specs.Reals.{exponent_marker}
-use Rattle.std.specs.Prelude.{if◌then◌else◌}
+use Rattle.std.specs.Prelude.{if◌then◌else◌, None, Option, Some}
 use Rattle.laws.specs.Letters.{is_sign, lower, to_lower}
 use Rattle.numbers_standard.specs.Reals.{real}
 use Rattle.numbers_difference.specs.R7rs.{ComplexAt, ImaginaryAt, Infnan, Number, RealAt}
@@ -103,7 +100,7 @@ ends_not h (RealAt.ureal {g = g} {s = s} z u) = plain_ends (g ++ s) (all_append 
 ends_not h (RealAt.infnan i) = infnan_ends i
 
 -- <complex R>: what is derived is read
-pub complex_is : {R p : ℕ} {s : List ℕ} {a : Parts} → Radix R → ComplexAt R p s a → complex R p s ≡ SomeParts a
+pub complex_is : {R p : ℕ} {s : List ℕ} {a : Parts} → Radix R → ComplexAt R p s a → complex R p s ≡ Some a
 unfolding complex rectangular alone_of pair_of just_of polar_of complex_of
 complex_is {R} {p} h (ComplexAt.real {s = s} {r = r} d) =
     let l = radix_le h in
@@ -146,7 +143,7 @@ complex_is {R} {p} h (ComplexAt.imaginary {b = b} {c = c} e m) =
     simp (before_none (code "@") (b ++ c ∷ []) o, k, ends_i_lem b m, ne_eqb (sign (b ++ c ∷ [])) 0 (signed_sign b (c ∷ []) (imaginary_signed e)), init_snoc b c, imaginary_is l e)
 
 -- what is read is derived
-pub no_parts : {A : Type 0} {a : Parts} → NoParts ≡ SomeParts a → A
+pub no_parts : {A : Type 0} {a : Parts} → None ≡ Some a → A
 no_parts e = impossible cc
 
 ends_split : (s : List ℕ) → ends_i s ≡ true → (c : ℕ) × Letter "i" c × (s ≡ init s ++ c ∷ [])
@@ -214,54 +211,54 @@ sign_signed [] h = absurd (h refl)
 sign_signed (c ∷ t) h = by_bool (is_sign c) (λ e. (c, t, refl, e))
     (λ e. absurd (h (by_bool (eqb c (code "+")) (λ f. yes_no (rw f at e)) (λ f. by_bool (eqb c (code "-")) (λ g. yes_no (rw (f, g) at e)) (λ g. rw (f, g))))))
 
-complex_of_lem : (R p q : ℕ) (s t : List ℕ) (a : Parts) → R ≤ 16 → (sign t ≡ 0 → ⊥) → complex_of (real R p s) (imaginary R q t) ≡ SomeParts a
+complex_of_lem : (R p q : ℕ) (s t : List ℕ) (a : Parts) → R ≤ 16 → (sign t ≡ 0 → ⊥) → complex_of (real R p s) (imaginary R q t) ≡ Some a
     → (x : Real) × (y : Real) × RealAt R p s x × ImaginaryAt R q t y × (a ≡ Complex x y)
 unfolding complex_of
 complex_of_lem R p q s t a l n h = go (real R p s) refl (imaginary R q t) refl (h)
   where
-    go : (u : MaybeReal) → real R p s ≡ u → (v : MaybeReal) → imaginary R q t ≡ v → complex_of (real R p s) (imaginary R q t) ≡ SomeParts a
+    go : (u : Option Real) → real R p s ≡ u → (v : Option Real) → imaginary R q t ≡ v → complex_of (real R p s) (imaginary R q t) ≡ Some a
         → (x : Real) × (y : Real) × RealAt R p s x × ImaginaryAt R q t y × (a ≡ Complex x y)
-    go (AReal x) e (AReal y) f k = let k' : SomeParts (Complex x y) ≡ SomeParts a = rw (e, f) at k in let z : a ≡ Complex x y = cc in (x, y, real_inv R p s x e, imaginary_inv R q t y l n f, z)
-    go NoReal e v f k = no_parts (rw e at k)
-    go (AReal x) e NoReal f k = no_parts (rw (e, f) at k)
+    go (Some x) e (Some y) f k = let k' : Some (Complex x y) ≡ Some a = rw (e, f) at k in let z : a ≡ Complex x y = cc in (x, y, real_inv R p s x e, imaginary_inv R q t y l n f, z)
+    go None e v f k = no_parts (rw e at k)
+    go (Some x) e None f k = no_parts (rw (e, f) at k)
 
-polar_of_lem : (R p q : ℕ) (s t : List ℕ) (a : Parts) → polar_of (real R p s) (real R q t) ≡ SomeParts a → (x : Real) × (y : Real) × RealAt R p s x × RealAt R q t y × (a ≡ Polar x y)
+polar_of_lem : (R p q : ℕ) (s t : List ℕ) (a : Parts) → polar_of (real R p s) (real R q t) ≡ Some a → (x : Real) × (y : Real) × RealAt R p s x × RealAt R q t y × (a ≡ Polar x y)
 unfolding polar_of
 polar_of_lem R p q s t a h = go (real R p s) refl (real R q t) refl h
   where
-    go : (u : MaybeReal) → real R p s ≡ u → (v : MaybeReal) → real R q t ≡ v → polar_of (real R p s) (real R q t) ≡ SomeParts a
+    go : (u : Option Real) → real R p s ≡ u → (v : Option Real) → real R q t ≡ v → polar_of (real R p s) (real R q t) ≡ Some a
         → (x : Real) × (y : Real) × RealAt R p s x × RealAt R q t y × (a ≡ Polar x y)
-    go (AReal x) e (AReal y) f k = let k' : SomeParts (Polar x y) ≡ SomeParts a = rw (e, f) at k in let z : a ≡ Polar x y = cc in (x, y, real_inv R p s x e, real_inv R q t y f, z)
-    go NoReal e v f k = no_parts (rw e at k)
-    go (AReal x) e NoReal f k = no_parts (rw (e, f) at k)
+    go (Some x) e (Some y) f k = let k' : Some (Polar x y) ≡ Some a = rw (e, f) at k in let z : a ≡ Polar x y = cc in (x, y, real_inv R p s x e, real_inv R q t y f, z)
+    go None e v f k = no_parts (rw e at k)
+    go (Some x) e None f k = no_parts (rw (e, f) at k)
 
 -- the five with an imaginary part alone, and <real R>
-alone_inv : (R p : ℕ) (s : List ℕ) (a : Parts) → R ≤ 16 → alone_of R p s ≡ SomeParts a → ComplexAt R p s a
+alone_inv : (R p : ℕ) (s : List ℕ) (a : Parts) → R ≤ 16 → alone_of R p s ≡ Some a → ComplexAt R p s a
 unfolding alone_of just_of complex_of
 alone_inv R p s a l h =
     by_bool (ends_i s)
     (λ e. by_bool (eqb (sign s) 0) (λ f. no_parts (rw (e, f) at h)) (λ f. imag e (λ q. eqb-false (sign s) 0 f q) (imaginary R p (init s)) refl (rw (e, f) at h)))
     (λ e. one (real R p s) refl (rw e at h))
   where
-    one : (u : MaybeReal) → real R p s ≡ u → just_of (real R p s) ≡ SomeParts a → ComplexAt R p s a
-    one (AReal x) f k = let k' : SomeParts (Just x) ≡ SomeParts a = rw f at k in let z : a ≡ Just x = cc in rw z (ComplexAt.real (real_inv R p s x f))
-    one NoReal f k = no_parts (rw f at k)
+    one : (u : Option Real) → real R p s ≡ u → just_of (real R p s) ≡ Some a → ComplexAt R p s a
+    one (Some x) f k = let k' : Some (Just x) ≡ Some a = rw f at k in let z : a ≡ Just x = cc in rw z (ComplexAt.real (real_inv R p s x f))
+    one None f k = no_parts (rw f at k)
 
-    imag : ends_i s ≡ true → (sign s ≡ 0 → ⊥) → (u : MaybeReal) → imaginary R p (init s) ≡ u → complex_of (AReal ImpliedZero) (imaginary R p (init s)) ≡ SomeParts a → ComplexAt R p s a
-    imag e n (AReal y) f k =
-        let k' : SomeParts (Complex ImpliedZero y) ≡ SomeParts a = rw f at k in
+    imag : ends_i s ≡ true → (sign s ≡ 0 → ⊥) → (u : Option Real) → imaginary R p (init s) ≡ u → complex_of (Some ImpliedZero) (imaginary R p (init s)) ≡ Some a → ComplexAt R p s a
+    imag e n (Some y) f k =
+        let k' : Some (Complex ImpliedZero y) ≡ Some a = rw f at k in
         let z : a ≡ Complex ImpliedZero y = cc in
         let w = ends_split s e in
         let i = imaginary_inv R p (init s) y l (signed_init s (sign_signed s n) e) f in
         subst (λ (x : List ℕ). ComplexAt R p x a) (sym w.2) (rw z (ComplexAt.imaginary i w.1))
-    imag e n NoReal f k = no_parts (rw f at k)
+    imag e n None f k = no_parts (rw f at k)
 
 -- the five with a real and an imaginary part, cut before a sign
-pair_inv : (R p k : ℕ) (s : List ℕ) (a : Parts) → R ≤ 16 → k < length s → At k s → pair_of R p k s ≡ SomeParts a → ComplexAt R p s a
+pair_inv : (R p k : ℕ) (s : List ℕ) (a : Parts) → R ≤ 16 → k < length s → At k s → pair_of R p k s ≡ Some a → ComplexAt R p s a
 unfolding pair_of
 pair_inv R p k s a l m g h = by_bool (ends_i (drop k s)) (λ e. two e (rw e at h)) (λ e. no_parts (rw e at h))
   where
-    two : ends_i (drop k s) ≡ true → complex_of (real R p (take k s)) (imaginary R (p + k) (init (drop k s))) ≡ SomeParts a → ComplexAt R p s a
+    two : ends_i (drop k s) ≡ true → complex_of (real R p (take k s)) (imaginary R (p + k) (init (drop k s))) ≡ Some a → ComplexAt R p s a
     two e j =
         let w = ends_split (drop k s) e in
         let t = complex_of_lem R p (p + k) (take k s) (init (drop k s)) a l (signed_init (drop k s) g e) j in
@@ -271,7 +268,7 @@ pair_inv R p k s a l m g h = by_bool (ends_i (drop k s)) (λ e. two e (rw e at h
         let q : take k s ++ (init (drop k s) ++ w.0 ∷ []) ≡ s = ap (λ (y : List ℕ). take k s ++ y) (sym w.2) ∙ take-append-drop k s in
         subst (λ (x : List ℕ). ComplexAt R p x a) q c
 
-pub complex_inv : (R p : ℕ) (s : List ℕ) (a : Parts) → R ≤ 16 → complex R p s ≡ SomeParts a → ComplexAt R p s a
+pub complex_inv : (R p : ℕ) (s : List ℕ) (a : Parts) → R ≤ 16 → complex R p s ≡ Some a → ComplexAt R p s a
 unfolding complex rectangular
 complex_inv R p s a l h =
     by_bool (ltb (before (code "@") s) (length s)) (λ e. polar e (rw e at h)) (λ e.
@@ -279,7 +276,7 @@ complex_inv R p s a l h =
     alone_inv R p s a l (rw (e, f) at h)))
   where
     polar : ltb (before (code "@") s) (length s) ≡ true → polar_of (real R p (take (before (code "@") s) s))
-        (real R (p + before (code "@") s + 1) (drop (before (code "@") s + 1) s)) ≡ SomeParts a → ComplexAt R p s a
+        (real R (p + before (code "@") s + 1) (drop (before (code "@") s + 1) s)) ≡ Some a → ComplexAt R p s a
     polar e j =
         let t = polar_of_lem R p (p + before (code "@") s + 1) (take (before (code "@") s) s) (drop (before (code "@") s + 1) s) a j in
         let n : length (take (before (code "@") s) s) ≡ before (code "@") s = length-take-le (before (code "@") s) s (omega (arith, ltb-true (before (code "@") s) (length s) e)) in
@@ -378,17 +375,17 @@ parts_seen R g s (inl e) = rw (e.2, e.1, e.0)
 parts_seen R g s (inr e) = rw (e.1, e.3, e.2, ne_eqb R 0 e.0)
 
 -- a text is accepted with these parts exactly if <number> derives it with these parts
-pub parts_is : {s : List ℕ} {a : Parts} → Number s a → number_parts s ≡ SomeParts a
+pub parts_is : {s : List ℕ} {a : Parts} → Number s a → number_parts s ≡ Some a
 parts_is (Number.num {R = R} {g = g} {s = s} m d) =
     parts_seen R g s (seen s m (complex_hash (radix_le (prefix_radix m)) d)) ∙ complex_is (prefix_radix m) d
 
-pub parts_inv : (s : List ℕ) (a : Parts) → number_parts s ≡ SomeParts a → Number s a
+pub parts_inv : (s : List ℕ) (a : Parts) → number_parts s ≡ Some a → Number s a
 unfolding number_parts
 parts_inv s a h =
     by_bool (eqb (prefix s) 0) (λ e. Number.num Prefix.empty (complex_inv 10 0 s a (lit≤ tt) (rw e at h))) (λ e.
     marked (prefix_made s (eqb-false (prefix s) 0 e)) (rw e at h))
   where
-    marked : Prefixed s → complex (prefix s) 2 (drop 2 s) ≡ SomeParts a → Number s a
+    marked : Prefixed s → complex (prefix s) 2 (drop 2 s) ≡ Some a → Number s a
     marked m j =
         let d : ComplexAt (prefix s) 2 (drop 2 s) a = complex_inv (prefix s) 2 (drop 2 s) a (radix_le (prefix_radix m.3)) j in
         let n : Number (code "#" ∷ m.0 ∷ drop 2 s) a = Number.num m.3 d in

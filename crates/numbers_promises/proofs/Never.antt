@@ -6,15 +6,14 @@ use mathlib.Core.List.{List}
 use lib.Dec.{eqb}
 use native.Mathlib.Omega.{arith}
 use Rattle.refusal.specs.Refusals as refusal
-use Rattle.std.specs.Prelude.{if◌then◌else◌}
+use Rattle.std.specs.Prelude.{if◌then◌else◌, Ok, Err}
 use Rattle.laws.proofs.Choice.{impossible}
 use Rattle.refusal.specs.Refusals.{over_long, unknown_choice}
 use Rattle.chars.specs.Encode.{spelled}
-use Rattle.numbers.specs.declared.NumberAnswer.TheVariants as answer
+use Rattle.numbers.specs.declared.NumberError.TheVariants as answer
 use Rattle.numbers.specs.Call.{Answer, parts, no_number, error, refused}
-use Rattle.numbers_standard.specs.declared.NumberByAnswer.{NumberByAnswer}
-use Rattle.numbers_standard.specs.declared.NumberByAnswer.TheVariants.{Answered, UnknownChoice}
-use Rattle.numbers_standard.specs.Call.{bought, standard, answered_by, number_by}
+use Rattle.numbers_standard.specs.declared.NumberByError.TheVariants.{Number, UnknownChoice}
+use Rattle.numbers_standard.specs.Call.{NumberByAnswer, bought, standard, answered_by, number_by}
 use Rattle.numbers_promises.specs.Rows.{bad, unknown, computed}
 
 -- two answers that the contract permits for one choice and text coincide
@@ -22,18 +21,18 @@ pub one_answer : (a b : NumberByAnswer) → answered_by a ≡ answered_by b → 
 one_answer a b e = sym (back-answered a) ∙ ap back e ∙ back-answered b
   where
     back : Answer → NumberByAnswer
-    back (parts p) = Answered (answer.Is p)
-    back no_number = Answered answer.NoNumber
-    back (error n) = Answered answer.ZeroDenominator
-    back (refused n m) = if eqb n unknown_choice then UnknownChoice else if eqb n over_long then Answered answer.TooLong else Answered (answer.NotUtf8 m)
+    back (parts p) = Ok p
+    back no_number = Err (Number answer.NoNumber)
+    back (error n) = Err (Number answer.ZeroDenominator)
+    back (refused n m) = if eqb n unknown_choice then Err UnknownChoice else if eqb n over_long then Err (Number answer.TooLong) else Err (Number (answer.NotUtf8 m))
 
     back-answered : (a : NumberByAnswer) → back (answered_by a) ≡ a
-    back-answered (Answered (answer.Is p)) = refl
-    back-answered (Answered answer.NoNumber) = refl
-    back-answered (Answered answer.ZeroDenominator) = refl
-    back-answered (Answered answer.TooLong) = refl
-    back-answered (Answered (answer.NotUtf8 at)) = refl
-    back-answered UnknownChoice = refl
+    back-answered (Ok p) = refl
+    back-answered (Err (Number answer.NoNumber)) = refl
+    back-answered (Err (Number answer.ZeroDenominator)) = refl
+    back-answered (Err (Number answer.TooLong)) = refl
+    back-answered (Err (Number (answer.NotUtf8 at))) = refl
+    back-answered (Err UnknownChoice) = refl
 
 -- what tells two answers apart: 0 for a number, 1 for none, else the error's or the refusal's number
 abbrev kind : Answer → ℕ

@@ -1,11 +1,9 @@
 -- The plainest reals are read as by the bought reader: they have no letter, so that case does not matter, and no sign but the first. So are
 -- brief numbers, which are cut at the same place.
+use Rattle.std.proofs.Common.{None, Option, Some, Ok}
+use Rattle.numbers.specs.declared.Real.{Real}
 use Rattle.numbers.specs.declared.Parts.{Parts}
 use Rattle.numbers.specs.declared.Parts.TheVariants.{Just, Complex, Polar}
-use Rattle.numbers.specs.declared.Parsed.TheVariants.{Is}
-use Rattle.numbers.specs.declared.MaybeParts.TheVariants.{SomeParts}
-use Rattle.numbers.specs.declared.MaybeReal.{MaybeReal}
-use Rattle.numbers.specs.declared.MaybeReal.TheVariants.{AReal, NoReal}
 use Rattle.numbers.specs.Brief.{Prefixed, Briefly}
 use Rattle.numbers.specs.Reals.{integral_of}
 use Rattle.numbers.proofs.Judged.{prefix_le}
@@ -24,8 +22,9 @@ use Rattle.numbers_standard.specs.Reals as standard
 use Rattle.numbers_standard.specs.Grammar.{ends_i, alone_of, joint, rectangular, complex, number_parts, parse_standard}
 use Rattle.numbers_standard.specs.Call.{by_standard}
 use Rattle.numbers_standard.proofs.Call.{parse_ten, parse_radix, served}
-use Rattle.numbers_standard.proofs.Cuts.{ends_here, joint_other, rectangular_pair}
-use Rattle.numbers_standard.proofs.Cuts as cuts
+use Rattle.numbers_standard.proofs.Cuts.{ends_here, joint_other}
+use Rattle.numbers.proofs.Grammars.{rectangular_pair}
+use Rattle.numbers_standard.specs.Grammars.{standard_parts, standard_cutting}
 use Rattle.numbers_standard.proofs.Letters.{lower_below}
 use Rattle.refusal.specs.Refusals.{limit}
 use Rattle.laws.specs.Letters.{lower, is_sign}
@@ -165,7 +164,7 @@ real_same p (c ∷ s) h =
 plain_one : (s : List ℕ) → plain s ≡ true → parse_standard s ≡ judged (just_of (bought.real 10 0 s))
 plain_one [] h = no_yes (sym plain_some ∙ h)
 plain_one (c ∷ s) h =
-    let n = plain_first c s h in one_real c s n.0 n.1 n.2 ∙ ap (λ (x : MaybeReal). judged (just_of x)) (real_same 0 (c ∷ s) h)
+    let n = plain_first c s h in one_real c s n.0 n.1 n.2 ∙ ap (λ (x : Option Real). judged (just_of x)) (real_same 0 (c ∷ s) h)
 
 -- ---- an integer behind a prefix
 
@@ -176,7 +175,7 @@ ratio_digits R r s h neg p =
     (λ e. let q = eqb-true R 10 e in simp (e, no_decimal_lem neg p s (ap (λ (n : ℕ). uinteger n s) (sym q) ∙ h), slashless R r s h, le-ltb (length s) (length s) (omega arith)))
     (λ e. simp (e, slashless R r s h, le-ltb (length s) (length s) (omega arith)))
 
-kept_finite : (c : ℕ) (s : List ℕ) → All Calm s → infnan (c ∷ s) ≡ NoReal
+kept_finite : (c : ℕ) (s : List ℕ) → All Calm s → infnan (c ∷ s) ≡ None
 unfolding infnan bought.infnan same
 kept_finite c [] h = simp and_no
 kept_finite c (d ∷ s) h =
@@ -191,25 +190,25 @@ radix_complex R r (c ∷ s) h =
     one_complex R 2 c s k.at k.i k.big k.rest
     ∙ ap just_of (simp (kept_finite c s k.rest, ratio_digits R r (drop (sign (c ∷ s)) (c ∷ s)) h (negative (c ∷ s)) (2 + sign (c ∷ s))))
 
-prefixed_complex : (t : List ℕ) (x : MaybeReal) → prefix t ≤ 16 → Prefixed t x → just_of x ≡ complex (prefix t) 2 (drop 2 t)
+prefixed_complex : (t : List ℕ) (x : Option Real) → prefix t ≤ 16 → Prefixed t x → just_of x ≡ complex (prefix t) 2 (drop 2 t)
 prefixed_complex t x r h =
     let d = drop-drop (sign (drop 2 t)) 2 t in
     sym (radix_complex (prefix t) r (drop 2 t) (ap (uinteger (prefix t)) d ∙ h.1) ∙ ap just_of (simp d (sym h.2)))
 
 -- ---- brief numbers: both grammars cut them at the same place
 
-brief_parsed : (t : List ℕ) (p : Parts) → Briefly t (SomeParts p) → Is p ≡ parse_standard t
+brief_parsed : (t : List ℕ) (p : Parts) → Briefly t (Some p) → Ok p ≡ parse_standard t
 unfolding just_of lower within
 brief_parsed t (Just a) (inl h) =
-    let r = plain-told 0 t a h in judged_is (Just a) (nonzero t (Just a) (inl h)) ∙ ap (λ (x : MaybeReal). judged (just_of x)) r.1 ∙ sym (plain_one t r.0)
+    let r = plain-told 0 t a h in judged_is (Just a) (nonzero t (Just a) (inl h)) ∙ ap (λ (x : Option Real). judged (just_of x)) r.1 ∙ sym (plain_one t r.0)
 brief_parsed t (Just a) (inr h) =
-    parse_radix t (prefix t) (SomeParts (Just a)) (Is (Just a)) refl (λ e. omega (arith, h.0)) (prefixed_complex t (AReal a) (prefix_le t) h)
+    parse_radix t (prefix t) (Some (Just a)) (Ok (Just a)) refl (λ e. omega (arith, h.0)) (prefixed_complex t (Some a) (prefix_le t) h)
     (judged_is (Just a) (nonzero t (Just a) (inr h)))
 brief_parsed t (Polar a b) h =
     let k = h.0 in
     let u = (plain-told 0 (drop 0 (take k t)) a h.3).0 in
-    parse_ten t 0 (SomeParts (Polar a b)) (Is (Polar a b)) (unmarked t k h.1 u) refl
-    (polar_parts cuts.standard real_same t k h.1 a b h.3 h.2 h.4) (judged_is (Polar a b) (nonzero t (Polar a b) h))
+    parse_ten t 0 (Some (Polar a b)) (Ok (Polar a b)) (unmarked t k h.1 u) refl
+    (polar_parts standard_parts real_same t k h.1 a b h.3 h.2 h.4) (judged_is (Polar a b) (nonzero t (Polar a b) h))
 brief_parsed t (Complex a b) h =
     let k = h.0 in
     let u = (plain-told 0 (drop 0 (take k t)) a h.4).0 in
@@ -217,9 +216,9 @@ brief_parsed t (Complex a b) h =
     let l = h.1 in
     let e = ends_here t k h.1 (code "i") (ap lower (sym h.3)) in
     let j = joint_other 10 t 0 k (λ q. omega arith) (omega arith) false (markless t k h.1 u h.2 h.3 w) (sign_there t k h.1 u h.2 h.3 w) in
-    parse_ten t 0 (SomeParts (Complex a b)) (Is (Complex a b)) (unmarked t k h.1 u) refl
-    (complex_parts cuts.standard real_same t k h.1 a b h.4 h.2 h.3 h.5 e (λ r z. rectangular_pair 10 t 0 k j r h.1 z))
+    parse_ten t 0 (Some (Complex a b)) (Ok (Complex a b)) (unmarked t k h.1 u) refl
+    (complex_parts standard_parts real_same t k h.1 a b h.4 h.2 h.3 h.5 e (λ r z. rectangular_pair standard_cutting 10 t 0 k j h.1 r refl z))
     (judged_is (Complex a b) (nonzero t (Complex a b) h))
 
-pub brief_answer : (t : List ℕ) → length t ≤ limit → (p : Parts) → Briefly t (SomeParts p) → parts p ≡ by_standard t
+pub brief_answer : (t : List ℕ) → length t ≤ limit → (p : Parts) → Briefly t (Some p) → parts p ≡ by_standard t
 brief_answer t l p h = ap given (brief_parsed t p h) ∙ sym (served t l (ascii_good t (brief_ascii t p h)))

@@ -1,4 +1,5 @@
 pub mod Reals
 pub mod Grammar
+pub mod Grammars
 pub mod Call
 pub mod Examples

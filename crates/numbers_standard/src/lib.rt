@@ -7,24 +7,31 @@
 ghost use Rattle.std.specs.Prelude.{◌≡◌, ◌≤◌, length};
 ghost use Rattle.refusal.specs.Refusals.{limit};
 ghost use Rattle.numbers.specs.Call.{answered};
+ghost use Rattle.numbers_standard.specs.declared.NumberByError.TheVariants.{Number};
 ghost use Rattle.numbers_standard.specs.Grammar.{parse_standard};
 ghost use Rattle.numbers_standard.specs.Call.{answered_by, by_standard, number_by};
 
-use chars::Utf8;
-use digits::DECIMAL_RADIX;
-use numbers::{MaybeParts, NO_RADIX, NumberAnswer, PREFIX, Parsed};
+use grammar::Standard;
+use numbers::{NumberError, ParseError, Parts};
 use refusal::LIMIT;
 
-mod complexes;
-mod reals;
+mod grammar;
 
-// What the number call with a choice answers: specs/Call gives the numbers for each case.
+// Why the number call with a choice gives no parts: specs/Call gives the numbers for each case.
 #[derive(Clone, Copy)]
-pub enum NumberByAnswer {
-    // what the chosen reader's call answers
-    Answered(NumberAnswer),
+pub enum NumberByError {
+    // what the chosen reader's call says
+    Number(NumberError),
     // choice 2
     UnknownChoice,
+}
+
+impl From<NumberError> for NumberByError {
+    ghost from_gives = { λ x e. e ≡ Number x };
+
+    fn from(e: NumberError) -> NumberByError {
+        NumberByError::Number(e)
+    }
 }
 
 // The choices: the bought reader, and the standard's.
@@ -33,46 +40,38 @@ const BOUGHT: u32 = 0;
 const STANDARD: u32 = 1;
 
 // What a text is as a number by the standard. Internal: for a text that is known to be UTF-8 and short enough.
-pub fn parse_standard(t: &[u8]) -> Parsed
+pub fn parse_standard(t: &[u8]) -> Result<Parts, ParseError>
     ensures { result ≡ parse_standard t.now }
 {
-    let radix = numbers::prefix(t);
-    if radix == NO_RADIX {
-        numbers::judge(complexes::complex_at(t, 0, DECIMAL_RADIX))
-    } else {
-        numbers::judge(complexes::complex_at(t, PREFIX, radix))
-    }
+    numbers::judge(numbers::number_parts::<Standard>(t))
 }
 
 // The number call with the standard's reader on a text that is short enough.
-fn by_standard(t: &[u8]) -> NumberAnswer
+fn by_standard(t: &[u8]) -> Result<Parts, NumberError>
     requires { length t.now ≤ limit }
     ensures { answered result ≡ by_standard t.now }
 {
     match chars::first_bad(t) {
-        Utf8::Bad(at) => NumberAnswer::NotUtf8(at),
-        Utf8::Good => numbers::serve(parse_standard(t)),
+        Some(at) => Err(NumberError::NotUtf8(at)),
+        None => numbers::serve(parse_standard(t)),
     }
 }
 
 // The number call with a choice of reader on any bytes. Both readers answer brief numbers alike.
-pub fn number_by(choice: u32, t: &[u8]) -> NumberByAnswer
+pub fn number_by(choice: u32, t: &[u8]) -> Result<Parts, NumberByError>
     ensures { answered_by result ≡ number_by choice t.now }
 {
     if STANDARD < choice {
-        return NumberByAnswer::UnknownChoice;
+        return Err(NumberByError::UnknownChoice);
     }
     if LIMIT < t.len() {
-        return NumberByAnswer::Answered(NumberAnswer::TooLong);
+        return Err(NumberByError::Number(NumberError::TooLong));
     }
-    match numbers::brief_parts(t) {
-        MaybeParts::SomeParts(p) => {
-            return NumberByAnswer::Answered(NumberAnswer::Is(p));
-        }
-        MaybeParts::NoParts => {}
+    if let Some(p) = numbers::brief_parts(t) {
+        return Ok(p);
     }
     if choice == BOUGHT {
-        return NumberByAnswer::Answered(numbers::by_grammar(t));
+        return Ok(numbers::by_grammar(t)?);
     }
-    NumberByAnswer::Answered(by_standard(t))
+    Ok(by_standard(t)?)
 }

@@ -18,7 +18,7 @@ ghost use Rattle.numbers.specs.Call.{answered};
 ghost use Rattle.numbers_words.specs.Words.{bit, minus, sign, nothing, places, int_words, formed, no_real, real_words, joined, parts_words, flattened, number_words, room_or, number_or, figure, real};
 
 use digits::{Int, Span};
-use numbers::{NumberAnswer, Parts, Point, Real, ZERO_DENOMINATOR};
+use numbers::{NumberError, Parts, Point, Real, ZERO_DENOMINATOR};
 use refusal::{LIMIT_VALUE, NOT_UTF8, TOO_FEW, TOO_LONG};
 
 // What the call answers beside the error of a zero denominator and refusals: a number, or none.
@@ -291,14 +291,14 @@ fn tell_refused(words: &mut [u64], number: u32, with: u64) -> u32
 }
 
 // Tells an answer: its number, and its words at the front of `words`, where there are so many.
-pub fn tell(words: &mut [u64], a: NumberAnswer) -> u32
+pub fn tell(words: &mut [u64], a: Result<Parts, NumberError>) -> u32
     ensures { (result ≡ number_or words.old (answered a)) × (words.new ≡ lay (flattened (answered a)) words.old) }
 {
     match a {
-        NumberAnswer::Is(p) => tell_parts(words, p),
-        NumberAnswer::NoNumber => tell_bare(words, NO_NUMBER),
-        NumberAnswer::ZeroDenominator => tell_bare(words, ZERO_DENOMINATOR),
-        NumberAnswer::TooLong => tell_refused(words, TOO_LONG, LIMIT_VALUE),
-        NumberAnswer::NotUtf8(at) => tell_refused(words, NOT_UTF8, at as u64),
+        Ok(p) => tell_parts(words, p),
+        Err(NumberError::NoNumber) => tell_bare(words, NO_NUMBER),
+        Err(NumberError::ZeroDenominator) => tell_bare(words, ZERO_DENOMINATOR),
+        Err(NumberError::TooLong) => tell_refused(words, TOO_LONG, LIMIT_VALUE),
+        Err(NumberError::NotUtf8(at)) => tell_refused(words, NOT_UTF8, at as u64),
     }
 }

@@ -1,5 +1,6 @@
 -- Over the bytes of a text the turns give what the definition of items says, up to the end or the stop. The machine of items stands
 -- between: a turn does what the machine does with the character that became whole, and the machine gives the definition's items.
+use Rattle.std.proofs.Common.{None, Option, Some}
 use Rattle.refusal.specs.Refusals as refusal
 use Rattle.chars.specs.Blank.{is_blank}
 use Rattle.chars.specs.Encode.{is_scalar, utf8, width, bytes_of}
@@ -19,12 +20,10 @@ use Rattle.items.proofs.Splits.{length_bytes}
 use Rattle.chars.proofs.Width.{width-utf8}
 use Rattle.laws.specs.Quoted.{code}
 use Rattle.laws.proofs.Choice.{by_bool, if_all, if_is}
-use Rattle.pieces.specs.declared.Beyond.{Beyond}
-use Rattle.pieces.specs.declared.Beyond.TheVariants.{End, Char}
 use Rattle.pieces.specs.declared.Stage.{Stage}
 use Rattle.pieces.specs.declared.Stage.TheVariants.{Opening, Pound, FirstLine, Idle, Busy, Waiting, Stopped}
 use Rattle.pieces.specs.declared.State.{State}
-use Rattle.pieces.specs.Calls.{item, whole, becomes, at_depth, deeper, last_of, item_so_far, laid_at, Turn, on, stopped, begin, beyond, gives, report, ends, on_next, on_stage}
+use Rattle.pieces.specs.Calls.{item, whole, becomes, at_depth, deeper, last_of, item_so_far, laid_at, Turn, on, stopped, begin, beyond, gives, report, on_next, on_stage}
 use Rattle.pieces.specs.Drive.{heed, prepend}
 use Rattle.pieces.specs.Expected.{Expected, longest}
 use Rattle.pieces.specs.Given.{given, given_all}
@@ -90,9 +89,9 @@ module _ (bytes : List ℕ) where
     -- ---- the items of an extent
 
     -- what stands beyond a pair is the same after its first item
-    waited : (st : ℕ) (last : Place) (b : Beyond) → beyond (becomes s s.buf (Waiting st b) s.marks.at s.marks.len last) last b ≡ beyond s last b
-    waited st last End = refl
-    waited st last (Char c) = refl
+    waited : (st : ℕ) (last : Place) (b : Option ℕ) → beyond (becomes s s.buf (Waiting st b) s.marks.at s.marks.len last) last b ≡ beyond s last b
+    waited st last None = refl
+    waited st last (Some c) = refl
 
     module _ (after : List ℕ) (text : bytes_of q ++ after ≡ bytes) (st : ℕ) (h : Held q s st) where
       raw_bytes_lem : take (s.marks.at - st) (drop st bytes) ≡ take s.marks.len s.buf
@@ -102,7 +101,7 @@ module _ (bytes : List ℕ) where
           ∙ ap (λ (l : List ℕ). take (s.marks.at - st) (l ++ after)) h.bytes
           ∙ take_at (take s.marks.len s.buf) after (s.marks.at - st) (omega (arith, held_length k, h.ends))
 
-      pub gives_all : (b : Beyond) (last set : Place) (ms : List Meaning) → Shape st s.marks.at (take s.marks.len s.buf) ms → (go : State → Expected)
+      pub gives_all : (b : Option ℕ) (last set : Place) (ms : List Meaning) → Shape st s.marks.at (take s.marks.len s.buf) ms → (go : State → Expected)
           → ((d : ℕ) → settled (beyond (at_depth d s) last b) go ≡ go (beyond (at_depth d s) last b))
           → after_turn (gives s st last b (items_of (report s) set st s.marks.at ms)) go
           ≡ prepend (given_all bytes s.marks.depth (kept s.marks.skip (items_of (report s) set st s.marks.at ms)))
@@ -179,7 +178,7 @@ module _ (bytes : List ℕ) where
             let w : Within last = kept_range k st o (item_so_far s) z (omega (arith, h.ends, k.far)) (omega (arith, k.far)) (omega (arith, h.ends, k.far, bytes_fit s)) in
             let d : ℕ = depth_past s.marks.depth (kept s.marks.skip (extent_items (report s) (last_of s) st o (item_so_far s))) in
             goes (begin (at_depth d s) last c) (arrives_begin d last w)
-            (λ go. gives_all after text st h (Char c) last (range_after (report s) (standing (report s) (last_of s)) st o (item_so_far s))
+            (λ go. gives_all after text st h (Some c) last (range_after (report s) (standing (report s) (last_of s)) st o (item_so_far s))
             (meaning_of (report s) o st s.marks.at (take s.marks.len s.buf))
             (shape st s.marks.at (take s.marks.len s.buf) (report s) o) go (λ e. settled_calm (begin (at_depth e s) last c) (begin_calm (at_depth e s) last c) go))
 

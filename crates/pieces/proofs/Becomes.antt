@@ -1,4 +1,5 @@
 -- How a state becomes another: one law for each way, by which what `Kept` says of a state holds of the next.
+use Rattle.std.proofs.Common.{Option}
 use Rattle.chars.specs.Encode.{is_scalar, utf8, width, bytes_of}
 use Rattle.items.specs.declared.Outcome.{Outcome}
 use Rattle.items.specs.Items.{Place, range_after, byte_count}
@@ -7,7 +8,6 @@ use Rattle.items.specs.Whole.{limit}
 use Rattle.items.proofs.Splits.{length_bytes}
 use Rattle.chars.proofs.Bytes.{bytes_snoc}
 use Rattle.chars.proofs.Width.{wide, width_le, width-utf8}
-use Rattle.pieces.specs.declared.Beyond.{Beyond}
 use Rattle.pieces.specs.declared.Part.{Part}
 use Rattle.pieces.specs.declared.Stage.{Stage}
 use Rattle.pieces.specs.declared.Stage.TheVariants.{Opening, Pound, FirstLine, Idle, Busy, Waiting, Stopped}
@@ -190,7 +190,7 @@ module _ {q g : List ℕ} {s : State} (k : Kept q g s) where
       on (Stopped n p) h = h
 
   -- one item of a pair was given
-  pub kept_waiting : (st : ℕ) (b : Beyond) (last : Place) → Within last → Held q s st → 2 ≤ s.marks.len → Beyonds b s.marks.at
+  pub kept_waiting : (st : ℕ) (b : Option ℕ) (last : Place) → Within last → Held q s st → 2 ≤ s.marks.len → Beyonds b s.marks.at
       → Kept q [] (becomes s s.buf (Waiting st b) s.marks.at s.marks.len last)
   kept_waiting st b last w h two ok = record {
     mode = k.mode;

@@ -1,13 +1,14 @@
 -- The text of an item that a call gives has at most 4,096 bytes, so it fits the text memory. Of every state, produced or not: no item
 -- that is held is longer, and decoded text is never longer than what it was decoded from.
+use Rattle.std.proofs.Common.{None, Option, Some, Ok, Err, Result}
 use Rattle.refusal.specs.Refusals as refusal
 use Rattle.chars.specs.declared.Step.{Step}
 use Rattle.chars.specs.declared.Step.TheVariants as steps
 use Rattle.chars.specs.Blank.{is_blank}
 use Rattle.chars.specs.Encode.{width}
 use Rattle.chars.specs.Machine.{step, told}
-use Rattle.items.specs.declared.CharValue.{CharValue}
-use Rattle.items.specs.declared.CharValue.TheVariants.{Scalar, Wrong, WrongAt}
+use Rattle.items.specs.declared.CharError.{CharError}
+use Rattle.items.specs.declared.CharError.TheVariants.{Wrong, WrongAt}
 use Rattle.items.specs.declared.Next.{Next}
 use Rattle.items.specs.declared.Next.TheVariants.{Eat, Stop}
 use Rattle.items.specs.declared.Outcome.{Outcome}
@@ -24,13 +25,10 @@ use Rattle.items.specs.Whole.{limit, is_mode}
 use Rattle.items.proofs.Every.{Every}
 use Rattle.items.proofs.Shorter.{shorter}
 use Rattle.chars.proofs.Width.{width_le}
-use Rattle.numbers.specs.declared.Parsed.{Parsed}
-use Rattle.numbers.specs.declared.Parsed.TheVariants as parsed
-use Rattle.numbers.specs.Grammar.{parse_number}
+use Rattle.numbers.specs.declared.ParseError.TheVariants as parsed
+use Rattle.numbers.specs.Grammar.{parse_number, Parsed}
 use Rattle.laws.specs.Quoted.{code}
 use Rattle.laws.proofs.Choice.{if_all, if_is}
-use Rattle.pieces.specs.declared.Beyond.{Beyond}
-use Rattle.pieces.specs.declared.Beyond.TheVariants.{End, Char}
 use Rattle.pieces.specs.declared.Stage.{Stage}
 use Rattle.pieces.specs.declared.Stage.TheVariants.{Opening, Pound, FirstLine, Idle, Busy, Waiting, Stopped}
 use Rattle.pieces.specs.declared.State.{State}
@@ -85,14 +83,14 @@ module _ (s e : ℕ) (raw : List ℕ) where
 
   run_little : (p : Parsed) → Every (LittleMeaning raw) (run_means p s e raw)
   unfolding run_means
-  run_little (parsed.Is p) = (tt, tt)
-  run_little parsed.NoNumber = word_little
-  run_little parsed.ZeroDenominator = (tt, tt)
+  run_little (Ok p) = (tt, tt)
+  run_little (Err parsed.NoNumber) = word_little
+  run_little (Err parsed.ZeroDenominator) = (tt, tt)
 
-  character_little : (v : CharValue) → Every (LittleMeaning raw) (character_means v)
-  character_little (Scalar c) = (tt, tt)
-  character_little (Wrong n d) = (tt, tt)
-  character_little (WrongAt n d p) = (tt, tt)
+  character_little : (v : Result ℕ CharError) → Every (LittleMeaning raw) (character_means v)
+  character_little (Ok c) = (tt, tt)
+  character_little (Err (Wrong n d)) = (tt, tt)
+  character_little (Err (WrongAt n d p)) = (tt, tt)
 
   meant_little : (report : Bool) (o : Outcome) → Every (LittleMeaning raw) (meaning_of report o s e raw)
   meant_little report (Token k d) = (tt, tt)
@@ -143,18 +141,18 @@ given_fits s h i l = omega (arith, held_short s h, copied_short i.kind i.start (
 begin_short : (s : State) (last : Place) (c : ℕ) → Short (begin s last c)
 begin_short s last c = if_all Short (is_blank c) (omega arith) (omega (arith, width_le c))
 
-beyond_short : (s : State) (last : Place) (b : Beyond) → Short (beyond s last b)
-beyond_short s last End = omega arith
-beyond_short s last (Char c) = begin_short s last c
+beyond_short : (s : State) (last : Place) (b : Option ℕ) → Short (beyond s last b)
+beyond_short s last None = omega arith
+beyond_short s last (Some c) = begin_short s last c
 
 module _ (s : State) (h : Short s) where
-  fits_gives : (st : ℕ) (last : Place) (b : Beyond) (is : List Item) → Every (λ (i : Item). Little (item_so_far s).bytes i.text) is → FitsTurn (gives s st last b is)
+  fits_gives : (st : ℕ) (last : Place) (b : Option ℕ) (is : List Item) → Every (λ (i : Item). Little (item_so_far s).bytes i.text) is → FitsTurn (gives s st last b is)
   fits_gives st last b [] l = beyond_short s last b
   fits_gives st last b (i ∷ []) l =
       if_all FitsTurn (s.marks.skip && eqb i.kind kind.Comment) (beyond_short s last b) (given_fits s h i l.0)
   fits_gives st last b (i ∷ j ∷ is) l = given_fits s h i l.0
 
-  fits_ends : (st : ℕ) (o : Outcome) (b : Beyond) → FitsTurn (ends s st o b)
+  fits_ends : (st : ℕ) (o : Outcome) (b : Option ℕ) → FitsTurn (ends s st o b)
   unfolding extent_items
   fits_ends st o b =
       fits_gives st (range_after (report s) (last_of s) st o (item_so_far s)) b (extent_items (report s) (last_of s) st o (item_so_far s))
@@ -163,7 +161,7 @@ module _ (s : State) (h : Short s) where
 
   fits_next : (st c : ℕ) (n : Next) → FitsTurn (on_next s st c n)
   fits_next st c (Eat p) = if_is FitsTurn (ltb longest (s.marks.len + width c)) (λ _. tt) (λ e. ltb-false longest (s.marks.len + width c) e)
-  fits_next st c (Stop o) = fits_ends st o (Char c)
+  fits_next st c (Stop o) = fits_ends st o (Some c)
 
   fits_stage : (b : Stage) (c : ℕ) → FitsTurn (on_stage s b c)
   fits_stage Opening c = if_all Short (eqb c (code "#")) (omega (arith, width_le c)) (begin_short s (last_of s) c)
@@ -217,13 +215,13 @@ fits_end : (s : State) → Short s → (b : Stage) → FitsReply (end_unless_sto
 fits_end s h Opening = if_all FitsReply (eqb s.marks.part.count 0) tt tt
 fits_end s h Pound =
     if_all FitsReply (eqb s.marks.part.count 0)
-    (fits_replied (ends (declared s) 0 (finish_of AfterHash (item_so_far s).bytes) End) (fits_ends (declared s) h 0 (finish_of AfterHash (item_so_far s).bytes) End))
+    (fits_replied (ends (declared s) 0 (finish_of AfterHash (item_so_far s).bytes) None) (fits_ends (declared s) h 0 (finish_of AfterHash (item_so_far s).bytes) None))
     tt
 fits_end s h FirstLine = if_all FitsReply (eqb s.marks.part.count 0) tt tt
 fits_end s h Idle = if_all FitsReply (eqb s.marks.part.count 0) tt tt
 fits_end s h (Busy st p) =
     if_all FitsReply (eqb s.marks.part.count 0)
-    (fits_replied (ends (declared s) st (finish_of p (item_so_far s).bytes) End) (fits_ends (declared s) h st (finish_of p (item_so_far s).bytes) End))
+    (fits_replied (ends (declared s) st (finish_of p (item_so_far s).bytes) None) (fits_ends (declared s) h st (finish_of p (item_so_far s).bytes) None))
     tt
 fits_end s h (Waiting st b) = second_fits s h st
 fits_end s h (Stopped n p) = tt

@@ -4,8 +4,8 @@
 use Rattle.refusal.specs.Refusals as refusal
 use Rattle.chars.specs.Encode.{is_scalar, width, bytes_of}
 use Rattle.chars.proofs.Good.{Scalars}
-use Rattle.items.specs.declared.CharValue.{CharValue}
-use Rattle.items.specs.declared.CharValue.TheVariants.{Scalar, Wrong, WrongAt}
+use Rattle.items.specs.declared.CharError.{CharError}
+use Rattle.items.specs.declared.CharError.TheVariants.{Wrong, WrongAt}
 use Rattle.items.specs.declared.Outcome.{Outcome}
 use Rattle.items.specs.declared.Outcome.TheVariants.{Token, Str, HereStr, Word, Run, Lined, Keyword, Character, Error, ErrorAt}
 use Rattle.items.specs.declared.Phase.{Phase}
@@ -15,13 +15,11 @@ use Rattle.items.proofs.Failing.{past_within, Named, character_inside}
 use Rattle.items.specs.Meaning.{character_of, char_inside}
 use Rattle.items.specs.Readers.{SoFar, past_failing}
 use Rattle.items.specs.Whole.{limit}
-use Rattle.std.specs.Prelude.{if◌then◌else◌}
+use Rattle.std.specs.Prelude.{if◌then◌else◌, None, Option, Some, Err, Ok, Result}
 use Rattle.laws.specs.Quoted.{code}
 use Rattle.laws.specs.Lent.{written}
 use Rattle.laws.proofs.Lent.{length-written}
 use Rattle.laws.proofs.Choice.{if_all}
-use Rattle.pieces.specs.declared.Beyond.{Beyond}
-use Rattle.pieces.specs.declared.Beyond.TheVariants.{End, Char}
 use Rattle.pieces.specs.declared.Stage.{Stage}
 use Rattle.pieces.specs.declared.Stage.TheVariants.{Opening, Pound, FirstLine, Idle, Busy, Waiting, Stopped}
 use Rattle.pieces.specs.declared.State.{State}
@@ -81,9 +79,9 @@ pub record HeldIn (q buf : List ℕ) (n at st : ℕ) : Type 0 where
 abbrev pub Held : List ℕ → State → ℕ → Type 0
 Held q s st = HeldIn q s.buf s.marks.len s.marks.at st
 
-abbrev pub Beyonds : Beyond → ℕ → Type 0
-Beyonds End at = Unit {0}
-Beyonds (Char c) at = (is_scalar c ≡ true) × (at + width c ≤ limit)
+abbrev pub Beyonds : Option ℕ → ℕ → Type 0
+Beyonds None at = Unit {0}
+Beyonds (Some c) at = (is_scalar c ≡ true) × (at + width c ≤ limit)
 
 abbrev pub Staged : List ℕ → State → Stage → Type 0
 Staged q s Opening = q ≡ []
@@ -121,10 +119,10 @@ range_within report last w st Keyword i h l r f = w
 range_within report last w st Character i h l r f =
     sets (character_of report (char_inside i.bytes)) (character_inside report (char_inside i.bytes))
   where
-    sets : (v : CharValue) → Named (length (char_inside i.bytes)) v → Within (character_sets report v last st i)
-    sets (Scalar c) g = w
-    sets (Wrong e d) g = (l, r)
-    sets (WrongAt e d p) g =
+    sets : (v : Result ℕ CharError) → Named (length (char_inside i.bytes)) v → Within (character_sets report v last st i)
+    sets (Ok c) g = w
+    sets (Err (Wrong e d)) g = (l, r)
+    sets (Err (WrongAt e d p)) g =
         let t : List ℕ = char_inside i.bytes in
         let past = past_within d (st + 2 + p) (drop p t) in
         let ends : past_failing d (st + 2 + p) (drop p t) ≤ limit = omega (arith, g.0, g.1, past.1, length-drop p t, length-drop 2 i.bytes) in
@@ -191,9 +189,9 @@ phase_bounded n (ph.Brace k from) h = le-leb _ _ h
 phase_bounded n (ph.Hex k closer from m) h = both (le-leb _ _ h.0) (le-leb _ _ h.1)
 phase_bounded n (ph.Done o) h = done_bounded o h
 
-beyond_bounded : (b : Beyond) (at : ℕ) → Beyonds b at → beyond_bounds b at ≡ true
-beyond_bounded End at h = refl
-beyond_bounded (Char c) at h = both h.0 (le-leb _ _ h.1)
+beyond_bounded : (b : Option ℕ) (at : ℕ) → Beyonds b at → beyond_bounds b at ≡ true
+beyond_bounded None at h = refl
+beyond_bounded (Some c) at h = both h.0 (le-leb _ _ h.1)
 
 stop_bounded : (n : ℕ) → Stops n → (if eqb n refusal.over_long then true else if eqb n refusal.not_utf8 then true else eqb n refusal.long_item) ≡ true
 stop_bounded n h = ⊎_elim (λ e. rw e) (λ k. ⊎_elim (λ e. rw e) (λ e. rw e) k) h

@@ -1,14 +1,14 @@
 -- An extent gives one item, or the two identifiers of a word that begins with a plus.
-use Rattle.items.specs.declared.CharValue.{CharValue}
-use Rattle.items.specs.declared.CharValue.TheVariants.{Scalar, Wrong, WrongAt}
+use Rattle.std.proofs.Common.{Ok, Err, Result}
+use Rattle.items.specs.declared.CharError.{CharError}
+use Rattle.items.specs.declared.CharError.TheVariants.{Wrong, WrongAt}
 use Rattle.items.specs.declared.Outcome.{Outcome}
 use Rattle.items.specs.declared.Outcome.TheVariants.{Token, Str, HereStr, Word, Run, Lined, Keyword, Character, Error, ErrorAt}
 use Rattle.items.specs.Kinds as kind
 use Rattle.items.specs.Meaning.{Meaning, means, source, word_kind, word_means, run_means, character_of, char_inside, character_means, meaning_of}
 use Rattle.items.specs.Readers.{first_is}
-use Rattle.numbers.specs.declared.Parsed.{Parsed}
-use Rattle.numbers.specs.declared.Parsed.TheVariants as parsed
-use Rattle.numbers.specs.Grammar.{parse_number}
+use Rattle.numbers.specs.declared.ParseError.TheVariants as parsed
+use Rattle.numbers.specs.Grammar.{parse_number, Parsed}
 use Rattle.laws.specs.Quoted.{code}
 use Rattle.laws.proofs.Choice.{if_all, if_is, and_true}
 use Prim.Native.Nat.{ℕ, ◌+◌, ◌<◌}
@@ -36,14 +36,14 @@ module _ (s e : ℕ) (raw : List ℕ) where
 
   run_shape : (p : Parsed) → Shape s e raw (run_means p s e raw)
   unfolding run_means
-  run_shape (parsed.Is p) = alone _
-  run_shape parsed.NoNumber = word_shape
-  run_shape parsed.ZeroDenominator = alone _
+  run_shape (Ok p) = alone _
+  run_shape (Err parsed.NoNumber) = word_shape
+  run_shape (Err parsed.ZeroDenominator) = alone _
 
-  character_shape : (v : CharValue) → Shape s e raw (character_means v)
-  character_shape (Scalar c) = alone _
-  character_shape (Wrong n d) = alone _
-  character_shape (WrongAt n d p) = alone _
+  character_shape : (v : Result ℕ CharError) → Shape s e raw (character_means v)
+  character_shape (Ok c) = alone _
+  character_shape (Err (Wrong n d)) = alone _
+  character_shape (Err (WrongAt n d p)) = alone _
 
   pub shape : (report : Bool) (o : Outcome) → Shape s e raw (meaning_of report o s e raw)
   shape report (Token k d) = alone _

@@ -18,11 +18,9 @@ use Rattle.items.specs.Machine.{step_of, finish_of, on_first}
 use Rattle.items.specs.Meaning.{Meaning, meaning_of}
 use Rattle.items.specs.Whole.{limit, is_mode}
 use Rattle.items.proofs.Depth.{depth_slow}
-use Rattle.std.specs.Prelude.{if◌then◌else◌}
+use Rattle.std.specs.Prelude.{if◌then◌else◌, None, Option, Some}
 use Rattle.laws.specs.Quoted.{code}
 use Rattle.laws.proofs.Choice.{if_all, if_is}
-use Rattle.pieces.specs.declared.Beyond.{Beyond}
-use Rattle.pieces.specs.declared.Beyond.TheVariants.{End, Char}
 use Rattle.pieces.specs.declared.Stage.{Stage}
 use Rattle.pieces.specs.declared.Stage.TheVariants.{Opening, Pound, FirstLine, Idle, Busy, Waiting, Stopped}
 use Rattle.pieces.specs.declared.State.{State}
@@ -62,7 +60,7 @@ pub record Going (e : Bool) (s : State) : Type 0 where
 pub record Waits (e : Bool) (s : State) : Type 0 where
   pub read : List ℕ
   pub start : ℕ
-  pub beyond : Beyond
+  pub beyond : Option ℕ
   pub kept : Kept read [] s
   pub stage : s.marks.stage ≡ Waiting start beyond
   pub deep : Deep s
@@ -108,9 +106,9 @@ module _ {q g : List ℕ} {s : State} (k : Kept q g s) where
         kept = kept_first k c scalar room b last w (first_in k c scalar room b last, first_sized (width c) c);
       })
 
-  pub going_beyond : Low → (b : Beyond) → Beyonds b s.marks.at → (last : Place) → Within last → Going s.marks.ended (beyond s last b)
-  going_beyond low (Char c) h last w = going_begin low c h.0 h.1 last w
-  going_beyond low End h last w = record { read = q; begun = []; kept = kept_end k last w; calm = tt; deep = omega arith; ended = refl }
+  pub going_beyond : Low → (b : Option ℕ) → Beyonds b s.marks.at → (last : Place) → Within last → Going s.marks.ended (beyond s last b)
+  going_beyond low (Some c) h last w = going_begin low c h.0 h.1 last w
+  going_beyond low None h last w = record { read = q; begun = []; kept = kept_end k last w; calm = tt; deep = omega arith; ended = refl }
 
   halts : Low → (n p : ℕ) → Stops n → p ≤ limit → Halted n p (becomes s s.buf (Stopped n p) s.marks.at 0 (last_of s))
   halts low n p h l = record { read = q; kept = kept_stopped k n p h l; stage = refl; deep = omega arith }
@@ -137,7 +135,7 @@ counted_low {q} s h deep n = omega (arith, depth_slow n s.marks.depth, h.some)
 
 module _ {q g : List ℕ} {s : State} (k : Kept q g s) (deep : Deep s) where
   -- the items of an extent
-  module _ (st : ℕ) (h : Held q s st) (b : Beyond) (ok : Beyonds b s.marks.at) where
+  module _ (st : ℕ) (h : Held q s st) (b : Option ℕ) (ok : Beyonds b s.marks.at) where
     turned_gives : (last : Place) → Within last → (r : Bool) (set : Place) (ms : List Meaning) → Shape st s.marks.at (take s.marks.len s.buf) ms
         → Turned s.marks.ended (gives s st last b (items_of r set st s.marks.at ms))
     turned_gives last w r set ms (alone m) =
@@ -171,7 +169,7 @@ module _ {q g : List ℕ} {s : State} (k : Kept q g s) (deep : Deep s) where
             rw (held_length k) at z,
           );
         })
-    turned_next st h (Stop o) z = turned_ends st h (Char c) (scalar, room) o z
+    turned_next st h (Stop o) z = turned_ends st h (Some c) (scalar, room) o z
 
     staged : {b : Stage} → s.marks.stage ≡ b → Staged q s b
     staged e = subst (Staged q s) e k.staged
@@ -263,11 +261,11 @@ module _ {s : State} (h : Going true s) where
       (halts kept_now (omega (arith, h.deep)) refusal.not_utf8 s.marks.at (inr (inl refl)) (omega (arith, kept_now.far)))
 
   ended_item : (st : ℕ) → Held h.read s st → (p : Phase) → Sized s.marks.len p
-      → Leaves true (unless_cut s (replied (ends s st (finish_of p (item_so_far s).bytes) End)))
+      → Leaves true (unless_cut s (replied (ends s st (finish_of p (item_so_far s).bytes) None)))
   ended_item st held p z =
-      uncut (replied (ends s st (finish_of p (item_so_far s).bytes) End))
-      (replies true (ends s st (finish_of p (item_so_far s).bytes) End)
-      (rw (← h.ended) (turned_ends kept_now h.deep st held End tt (finish_of p (item_so_far s).bytes) (finish_ranges s.marks.len p (item_so_far s).bytes z))))
+      uncut (replied (ends s st (finish_of p (item_so_far s).bytes) None))
+      (replies true (ends s st (finish_of p (item_so_far s).bytes) None)
+      (rw (← h.ended) (turned_ends kept_now h.deep st held None tt (finish_of p (item_so_far s).bytes) (finish_ranges s.marks.len p (item_so_far s).bytes z))))
 
   ended_stage : (b : Stage) → s.marks.stage ≡ b → Calm b → Leaves true (end_stage s b)
   ended_stage Opening e z = uncut (reply 0 finished s) h

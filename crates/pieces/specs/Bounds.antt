@@ -1,6 +1,6 @@
 -- The field bounds of a state: a state outside them is refused with 27. docs/STATE.md lists them. They are what the calls need to read
 -- within the buffer and to give words of 32 bits; no state that the opening call and later calls produced is outside them.
-use Rattle.std.specs.Prelude.{ℕ, ◌+◌, ◌-◌, ◌*◌, ◌^◌, ◌≡◌, Bool, true, false, ◌&&◌, ◌⊎◌, eqb, leb, ltb, if◌then◌else◌}
+use Rattle.std.specs.Prelude.{ℕ, ◌+◌, ◌-◌, ◌*◌, ◌^◌, ◌≡◌, Bool, true, false, ◌&&◌, ◌⊎◌, eqb, leb, ltb, if◌then◌else◌, None, Option, Some}
 use Rattle.refusal.specs.Refusals as refusal
 use Rattle.chars.specs.Encode.{width, is_scalar}
 use Rattle.items.specs.Kinds as kind
@@ -9,8 +9,6 @@ use Rattle.items.specs.declared.Outcome.TheVariants.{Token, Str, HereStr, Word, 
 use Rattle.items.specs.declared.Phase.{Phase}
 use Rattle.items.specs.declared.Phase.TheVariants as ph
 use Rattle.items.specs.Whole.{limit, is_mode}
-use Rattle.pieces.specs.declared.Beyond.{Beyond}
-use Rattle.pieces.specs.declared.Beyond.TheVariants.{End, Char}
 use Rattle.pieces.specs.declared.Stage.{Stage}
 use Rattle.pieces.specs.declared.Stage.TheVariants.{Opening, Pound, FirstLine, Idle, Busy, Waiting, Stopped}
 use Rattle.pieces.specs.declared.Part.{Part}
@@ -73,9 +71,9 @@ phase_bounds (ph.Brace k from) n = is_place from
 phase_bounds (ph.Hex k closer from digits) n = is_place from && leb digits n
 phase_bounds (ph.Done o) n = done_bounds o
 
-abbrev pub beyond_bounds : Beyond → ℕ → Bool
-beyond_bounds End at = true
-beyond_bounds (Char c) at = is_scalar c && is_place (at + width c)
+abbrev pub beyond_bounds : Option ℕ → ℕ → Bool
+beyond_bounds None at = true
+beyond_bounds (Some c) at = is_scalar c && is_place (at + width c)
 
 -- an item that starts at st: its bytes, at least so many, lie right before the place
 abbrev pub held_bounds : ℕ → Marks → ℕ → Bool

@@ -1,6 +1,6 @@
 -- What one call does with a state: the bytes taken, what it gives, the state and the text memory afterwards. It is said of every state
 -- within the bounds, made by the calls or not, down to each byte of the buffer.
-use Rattle.std.specs.Prelude.{ℕ, ◌+◌, Bool, true, false, ◌&&◌, List, [], ◌∷◌, ◌++◌, take, drop, replicate, eqb, leb, ltb, if◌then◌else◌}
+use Rattle.std.specs.Prelude.{ℕ, ◌+◌, Bool, true, false, ◌&&◌, List, [], ◌∷◌, ◌++◌, take, drop, replicate, eqb, leb, ltb, if◌then◌else◌, None, Option, Some}
 use Rattle.laws.specs.Quoted.{code}
 use Rattle.laws.specs.Lent.{written}
 use Rattle.refusal.specs.Refusals as refusal
@@ -18,8 +18,6 @@ use Rattle.items.specs.Meaning.{source}
 use Rattle.items.specs.Items.{Place, range, range_after, Item, extent_items, item_of, depth_after}
 use Rattle.items.specs.Machine.{step_of, finish_of, on_first}
 use Rattle.items.specs.Whole.{limit, in_report, is_mode}
-use Rattle.pieces.specs.declared.Beyond.{Beyond}
-use Rattle.pieces.specs.declared.Beyond.TheVariants.{End, Char}
 use Rattle.pieces.specs.declared.Stage.{Stage}
 use Rattle.pieces.specs.declared.Stage.TheVariants.{Opening, Pound, FirstLine, Idle, Busy, Waiting, Stopped}
 use Rattle.pieces.specs.declared.Part.{Part}
@@ -126,13 +124,13 @@ begin s last c =
     else becomes s (laid_at 0 (utf8 c) s.buf) (Busy s.marks.at (on_first (first_of c))) (s.marks.at + width c) (width c) last
 
 -- what stands beyond the items that were given: a character, or the end
-abbrev pub beyond : State → Place → Beyond → State
-beyond s last (Char c) = begin s last c
-beyond s last End = becomes s s.buf Idle s.marks.at 0 last
+abbrev pub beyond : State → Place → Option ℕ → State
+beyond s last (Some c) = begin s last c
+beyond s last None = becomes s s.buf Idle s.marks.at 0 last
 
 -- the items of the extent that starts at st and ended: none, one, or a pair, whose second item waits. A comment may be skipped. The
 -- brackets that are open are counted with each item; a pair is two identifiers
-abbrev pub gives : State → ℕ → Place → Beyond → List Item → Turn
+abbrev pub gives : State → ℕ → Place → Option ℕ → List Item → Turn
 gives s st last b [] = on (beyond s last b)
 gives s st last b (i ∷ []) =
     if s.marks.skip && eqb i.kind kind.Comment
@@ -144,7 +142,7 @@ gives s st last b (i ∷ j ∷ is) =
 abbrev pub report : State → Bool
 report s = in_report s.marks.mode
 
-abbrev pub ends : State → ℕ → Outcome → Beyond → Turn
+abbrev pub ends : State → ℕ → Outcome → Option ℕ → Turn
 ends s st o b = gives s st (range_after (report s) (last_of s) st o (item_so_far s)) b (extent_items (report s) (last_of s) st o (item_so_far s))
 
 -- in an item that starts at st
@@ -153,7 +151,7 @@ on_next s st c (Eat q) =
     if ltb longest (s.marks.len + width c)
     then stopped s refusal.long_item st
     else on (becomes s (laid_at s.marks.len (utf8 c) s.buf) (Busy st q) (s.marks.at + width c) (s.marks.len + width c) (last_of s))
-on_next s st c (Stop o) = ends s st o (Char c)
+on_next s st c (Stop o) = ends s st o (Some c)
 
 abbrev pub on_stage : State → Stage → ℕ → Turn
 on_stage s Opening c =
@@ -267,10 +265,10 @@ unless_cut s r = if eqb s.marks.part.count 0 then r else replied (stopped s refu
 -- the end is declared in s
 abbrev pub end_stage : State → Stage → Reply
 end_stage s Opening = unless_cut s (reply 0 finished s)
-end_stage s Pound = unless_cut s (replied (ends s 0 (finish_of AfterHash (item_so_far s).bytes) End))
+end_stage s Pound = unless_cut s (replied (ends s 0 (finish_of AfterHash (item_so_far s).bytes) None))
 end_stage s FirstLine = unless_cut s (reply 0 finished s)
 end_stage s Idle = unless_cut s (reply 0 finished s)
-end_stage s (Busy st p) = unless_cut s (replied (ends s st (finish_of p (item_so_far s).bytes) End))
+end_stage s (Busy st p) = unless_cut s (replied (ends s st (finish_of p (item_so_far s).bytes) None))
 end_stage s (Waiting st b) = reply 0 (item (second s st)) (beyond s (last_of s) b)
 end_stage s (Stopped n p) = reply 0 (refused n p) s
 

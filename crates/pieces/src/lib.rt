@@ -12,15 +12,6 @@ use items::{Phase, Record};
 // How many bytes an item has at most, and the text memory at least.
 pub const LONGEST: usize = 4096;
 
-// What stands beyond a pair such as `+foo` whose second item waits.
-#[derive(Clone, Copy)]
-pub enum Beyond {
-    // the end of the text
-    End,
-    // the character that ended the pair
-    Char(u32),
-}
-
 // Where the reader stands.
 #[derive(Clone, Copy)]
 pub enum Stage {
@@ -35,7 +26,7 @@ pub enum Stage {
     // in an item that starts at this place
     Busy(usize, Phase),
     // after a pair that starts at this place, of which one item was given
-    Waiting(usize, Beyond),
+    Waiting(usize, Option<u32>),
     // a stop's number and place
     Stopped(u32, usize),
 }
@@ -84,19 +75,18 @@ pub enum Got {
     Refused(u32, usize),
 }
 
-// Whether a piece state was opened.
+// Why a piece state was not opened.
 #[derive(Clone, Copy)]
-pub enum Start {
-    Ready,
-    // a refusal's number, and the mode
-    Refused(u32, u32),
+pub enum OpenError {
+    // there is no such mode
+    NoMode(u32),
 }
 
 // A fresh state; a plain one where opening was refused.
 #[derive(Clone, Copy)]
 pub struct Opened {
     pub state: State,
-    pub start: Start,
+    pub start: Result<(), OpenError>,
 }
 
 // What a call answers: the state after it, how many bytes of the piece were taken, and what is given.

@@ -8,7 +8,7 @@ ghost use Rattle.pieces.specs.Bounds.{is_place, part_bounds, done_bounds, phase_
 use chars::{char_width, is_scalar};
 use items::modes::REPORT;
 use items::{Outcome, Phase, kinds};
-use pieces::{Beyond, LONGEST, Marks, Part, Stage};
+use pieces::{LONGEST, Marks, Part, Stage};
 use refusal::{LIMIT, LONG_ITEM, NOT_UTF8, TOO_LONG};
 
 // How many bytes a character has at most.
@@ -25,22 +25,14 @@ fn code_end(count: usize, need: usize) -> u32
     requires { (1 ≤ count) × (1 ≤ need) × (count + need ≤ 4) }
     ensures { result ≡ 2 ^ (1 + 6 * count - (count + need)) }
 {
-    if count == 1 {
-        if need == 1 {
-            return 0x20;
-        }
-        if need == 2 {
-            return 0x10;
-        }
-        return 0x8;
+    match (count, need) {
+        (1, 1) => 0x20,
+        (1, 2) => 0x10,
+        (1, _) => 0x8,
+        (2, 1) => 0x400,
+        (2, _) => 0x200,
+        _ => 0x8000,
     }
-    if count == 2 {
-        if need == 1 {
-            return 0x400;
-        }
-        return 0x200;
-    }
-    0x8000
 }
 
 // Whether the numbers of a character begun are such that it never gets more bytes than were taken.
@@ -51,29 +43,17 @@ fn part_bounds(part: Part) -> bool
     if part.count == 0 {
         return need == 0;
     }
-    if need == 0 {
-        return false;
-    }
-    if WIDEST < part.count {
-        return false;
-    }
-    if WIDEST < part.count + need {
-        return false;
-    }
-    part.state.code < code_end(part.count, need)
+    1 <= need
+        && part.count <= WIDEST
+        && part.count + need <= WIDEST
+        && part.state.code < code_end(part.count, need)
 }
 
 // Whether a range of an error is within the longest text.
 fn range_bounds(error: u32, from: usize, to: usize) -> bool
     ensures { result ≡ done_bounds (Outcome.ErrorAt error 0 from to) }
 {
-    if kinds::LAST_ERROR < error {
-        return false;
-    }
-    if LIMIT < from {
-        return false;
-    }
-    to <= LIMIT
+    error <= kinds::LAST_ERROR && from <= LIMIT && to <= LIMIT
 }
 
 // Whether an item that is whole may have this outcome.
@@ -98,10 +78,7 @@ fn done_bounds(what: Outcome) -> bool
 fn hex_bounds(from: usize, digits: usize, held: usize) -> bool
     ensures { result ≡ (is_place from && leb digits held) }
 {
-    if LIMIT < from {
-        return false;
-    }
-    digits <= held
+    from <= LIMIT && digits <= held
 }
 
 // Whether the phase's numbers fit an item of which `held` bytes are there.
@@ -140,22 +117,19 @@ fn phase_bounds(phase: Phase, held: usize) -> bool
 // Whether a character at a place is one, and within the longest text.
 fn char_bounds(c: u32, at: usize) -> bool
     requires { at ≤ limit }
-    ensures { result ≡ beyond_bounds (Beyond.Char c) at }
+    ensures { result ≡ beyond_bounds (Some c) at }
 {
-    if !is_scalar(c) {
-        return false;
-    }
-    at + char_width(c) <= LIMIT
+    is_scalar(c) && at + char_width(c) <= LIMIT
 }
 
 // Whether what stands beyond a pair is within the longest text.
-fn beyond_bounds(beyond: Beyond, at: usize) -> bool
+fn beyond_bounds(beyond: Option<u32>, at: usize) -> bool
     requires { at ≤ limit }
     ensures { result ≡ beyond_bounds beyond at }
 {
     match beyond {
-        Beyond::End => true,
-        Beyond::Char(c) => char_bounds(c, at),
+        None => true,
+        Some(c) => char_bounds(c, at),
     }
 }
 
@@ -163,59 +137,36 @@ fn beyond_bounds(beyond: Beyond, at: usize) -> bool
 fn held_bounds(start: usize, m: Marks, least: usize) -> bool
     ensures { result ≡ held_bounds start m least }
 {
-    if m.at < m.len {
-        return false;
-    }
-    if m.at - m.len != start {
-        return false;
-    }
-    least <= m.len
+    m.len <= m.at && m.at - m.len == start && least <= m.len
 }
 
 // Whether a stop is one of those that stand, at a place of a text.
 fn stop_bounds(number: u32, place: usize) -> bool
     ensures { result ≡ stop_bounds number place }
 {
-    match number {
-        TOO_LONG => place <= LIMIT,
-        NOT_UTF8 => place <= LIMIT,
-        LONG_ITEM => place <= LIMIT,
-        _ => false,
-    }
+    matches!(number, TOO_LONG | NOT_UTF8 | LONG_ITEM) && place <= LIMIT
 }
 
 // Whether a first # is all that was read.
 fn pound_bounds(m: Marks) -> bool
     ensures { result ≡ stage_bounds Stage.Pound m }
 {
-    if m.len != 1 {
-        return false;
-    }
-    m.at == 1
+    m.len == 1 && m.at == 1
 }
 
 // Whether an item that starts at `start` is held, and its phase fits.
 fn busy_bounds(start: usize, phase: Phase, m: Marks) -> bool
     ensures { result ≡ stage_bounds (Stage.Busy start phase) m }
 {
-    if !held_bounds(start, m, 1) {
-        return false;
-    }
-    phase_bounds(phase, m.len)
+    held_bounds(start, m, 1) && phase_bounds(phase, m.len)
 }
 
 // Whether a pair that starts at `start` is held, between two characters, and what stands beyond it fits.
-fn waiting_bounds(start: usize, beyond: Beyond, m: Marks) -> bool
+fn waiting_bounds(start: usize, beyond: Option<u32>, m: Marks) -> bool
     requires { m.at ≤ limit }
     ensures { result ≡ stage_bounds (Stage.Waiting start beyond) m }
 {
-    if !held_bounds(start, m, PAIR_LENGTH) {
-        return false;
-    }
-    if m.part.count != 0 {
-        return false;
-    }
-    beyond_bounds(beyond, m.at)
+    held_bounds(start, m, PAIR_LENGTH) && m.part.count == 0 && beyond_bounds(beyond, m.at)
 }
 
 // Whether the stage fits the other marks.
@@ -239,40 +190,20 @@ fn stage_bounds(stage: Stage, m: Marks) -> bool
 fn number_bounds(m: Marks) -> bool
     ensures { result ≡ number_bounds m }
 {
-    if REPORT < m.mode {
-        return false;
-    }
-    if LIMIT < m.at {
-        return false;
-    }
-    if LIMIT - m.at < m.part.count {
-        return false;
-    }
-    if LONGEST < m.len {
-        return false;
-    }
-    if LIMIT < m.from {
-        return false;
-    }
-    if LIMIT < m.to {
-        return false;
-    }
-    if m.at < m.len {
-        return false;
-    }
-    m.depth as usize <= m.at - m.len
+    m.mode <= REPORT
+        && m.at <= LIMIT
+        && m.part.count <= LIMIT - m.at
+        && m.len <= LONGEST
+        && m.from <= LIMIT
+        && m.to <= LIMIT
+        && m.len <= m.at
+        && m.depth as usize <= m.at - m.len
 }
 
 // Whether a state with these marks is within its bounds.
+#[tactic(auto, unfolding(pieces::specs::Bounds::is_in_bounds))]
 pub fn in_bounds(m: Marks) -> bool
     ensures { (buf : List ℕ) → result ≡ is_in_bounds (record { buf = buf; marks = m }) }
 {
-    if !number_bounds(m) {
-        return false;
-    }
-    if !part_bounds(m.part) {
-        return false;
-    }
-    let stage = m.stage;
-    stage_bounds(stage, m)
+    number_bounds(m) && part_bounds(m.part) && stage_bounds(m.stage, m)
 }

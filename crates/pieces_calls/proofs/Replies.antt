@@ -10,13 +10,11 @@ use lib.Dec.{eqb}
 use native.Mathlib.Numerals.{add-one}
 use native.Mathlib.Omega.{arith}
 use borrow.Author.Tests.{leb-true}
-use Rattle.std.specs.Prelude.{if◌then◌else◌}
+use Rattle.std.specs.Prelude.{if◌then◌else◌, None, Option, Some}
 use Rattle.laws.proofs.Choice.{if_all, and_true, no_yes, yes_no}
 use Rattle.chars.specs.Encode.{width, is_scalar}
 use Rattle.chars.proofs.Scalar.{scalar_true}
 use Rattle.items.specs.Whole.{limit}
-use Rattle.pieces.specs.declared.Beyond.{Beyond}
-use Rattle.pieces.specs.declared.Beyond.TheVariants.{End, Char}
 use Rattle.pieces.specs.declared.Stage.{Stage}
 use Rattle.pieces.specs.declared.Stage.TheVariants.{Idle, Waiting}
 use Rattle.pieces.specs.declared.Marks.{Marks}
@@ -120,14 +118,14 @@ held_declared m buf text start h = record {
 scalar_small : (c : ℕ) → is_scalar c ≡ true → c < 2 ^ 21
 scalar_small c e = ⊎_elim (λ h. omega arith) (λ h. omega arith) (scalar_true c e)
 
-beyond_bounded : (b : Beyond) (at : ℕ) → beyond_bounds b at ≡ true → BeyondFits b at
-beyond_bounded End at h = tt
-beyond_bounded (Char c) at h =
+beyond_bounded : (b : Option ℕ) (at : ℕ) → beyond_bounds b at ≡ true → BeyondFits b at
+beyond_bounded None at h = tt
+beyond_bounded (Some c) at h =
     let f = and_true (is_scalar c) (is_place (at + width c)) h in
     record { far = leb-true (at + width c) limit f.1; small = scalar_small c f.0 }
 
 pub held_waiting : (s : State) (text : List ℕ) → is_in_bounds s ≡ true → length s.buf ≡ longest → longest ≤ length text
-    → (st : ℕ) (b : Beyond) → s.marks.stage ≡ Waiting st b → HoldsItem s.marks s.buf text st × BeyondFits b s.marks.at
+    → (st : ℕ) (b : Option ℕ) → s.marks.stage ≡ Waiting st b → HoldsItem s.marks s.buf text st × BeyondFits b s.marks.at
 held_waiting s text bounded full room st b e =
     let t = told_numbers s bounded in
     let n = numbers s.marks t.0 in

@@ -1,17 +1,17 @@
 -- What the code's answers say: document 01's numbers and values for each case of an enum, and the state, whose buffer is lent to the
 -- inner calls.
-use Rattle.std.specs.Prelude.{ℕ, Bool, true, false, List, [], length, eqb, if◌then◌else◌}
+use Rattle.std.specs.Prelude.{ℕ, Bool, true, false, List, [], length, eqb, if◌then◌else◌, Result, Ok, Err}
 use Rattle.refusal.specs.Refusals as refusal
 use Rattle.pieces.specs.declared.Marks.{Marks}
 use Rattle.pieces.specs.declared.Got.{Got}
 use Rattle.pieces.specs.declared.Got.TheVariants.{Item, More, Finished, Refused}
-use Rattle.pieces.specs.declared.Start.{Start}
-use Rattle.pieces.specs.declared.Start.TheVariants as start
+use Rattle.pieces.specs.declared.OpenError.{OpenError}
+use Rattle.pieces.specs.declared.OpenError.TheVariants.{NoMode}
 use Rattle.pieces.specs.declared.Opened.{Opened}
 use Rattle.pieces.specs.declared.Answer.{Answer}
 use Rattle.pieces.specs.declared.Pieced.{Pieced}
 use Rattle.pieces.specs.declared.Turned.{Turned}
-use Rattle.pieces.specs.Calls.{What, more, refused, Reply, reply, marks, declared, piece_of, end_of}
+use Rattle.pieces.specs.Calls.{What, more, refused, Reply, reply, declared, piece_of, end_of}
 use Rattle.pieces.specs.Expected.{longest}
 pub use Rattle.pieces_giving.specs.Answers.{what_of, state_of}
 
@@ -19,9 +19,9 @@ abbrev pub answered : Answer → List ℕ → Reply
 answered a text = reply a.taken (what_of a.got text) a.state
 
 -- opening: ready for the first piece, or 25 with the mode
-abbrev pub start_of : Start → What
-start_of start.Ready = more
-start_of (start.Refused n mode) = refused n mode
+abbrev pub start_of : Result (Unit {0}) OpenError → What
+start_of (Ok u) = more
+start_of (Err (NoMode mode)) = refused refusal.no_such_mode mode
 
 abbrev pub opened : Opened → Reply
 opened o = reply 0 (start_of o.start) o.state

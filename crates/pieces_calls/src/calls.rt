@@ -9,7 +9,7 @@ ghost use Rattle.pieces_giving.specs.Inner.{HoldsItem, BeyondFits};
 ghost use Rattle.pieces_turns.specs.Inner.{Sound};
 
 use items::Phase;
-use pieces::{Answer, Beyond, Got, LONGEST, Marks, Pieced, Stage, State, Turned};
+use pieces::{Answer, Got, LONGEST, Marks, Pieced, Stage, State, Turned};
 use pieces_bounds::in_bounds;
 use pieces_giving::ends::{beyond, ends, extent, give_second};
 use pieces_turns::passing::{ahead, pass};
@@ -21,12 +21,7 @@ use steps::finish;
 fn is_more(got: Got) -> bool
     ensures { result ≡ is_more got }
 {
-    match got {
-        Got::Item(_record) => false,
-        Got::More => true,
-        Got::Finished => false,
-        Got::Refused(_number, _place) => false,
-    }
+    matches!(got, Got::More)
 }
 
 // A refusal that takes nothing and leaves the state as it was.
@@ -82,7 +77,7 @@ fn feed(m: Marks, buf: &mut [u8], piece: &[u8], text: &mut [u8]) -> Pieced
 }
 
 // The second item of the pair that starts at `start`, and what stands beyond the pair.
-fn give_waiting(m: Marks, buf: &mut [u8], text: &mut [u8], start: usize, b: Beyond) -> Pieced
+fn give_waiting(m: Marks, buf: &mut [u8], text: &mut [u8], start: usize, b: Option<u32>) -> Pieced
     requires { HoldsItem m buf.old text.old start × BeyondFits b m.at }
     ensures { (pieced result buf.new text.new ≡ calls.end_stage (state_of m buf.old) (Stage.Waiting start b))
         × (text.new ≡ calls.text_after (calls.end_stage (state_of m buf.old) (Stage.Waiting start b)).what text.old) }
@@ -103,7 +98,7 @@ fn piece_waiting(
     piece: &[u8],
     text: &mut [u8],
     start: usize,
-    b: Beyond,
+    b: Option<u32>,
 ) -> Pieced
     requires { HoldsItem m buf.old text.old start × BeyondFits b m.at }
     ensures { (pieced result buf.new text.new ≡ calls.piece_stage (state_of m buf.old) (Stage.Waiting start b) piece.now)
@@ -164,39 +159,20 @@ fn piece_in(m: Marks, buf: &mut [u8; LONGEST], piece: &[u8], text: &mut [u8]) ->
 fn declare(m: Marks) -> Marks
     ensures { result ≡ end_declared m }
 {
-    let stage = m.stage;
-    let part = m.part;
-    Marks {
-        mode: m.mode,
-        skip: m.skip,
-        ended: true,
-        stage,
-        at: m.at,
-        part,
-        from: m.from,
-        to: m.to,
-        len: m.len,
-        depth: m.depth,
-    }
+    Marks { ended: true, ..m }
 }
 
 // What a turn at the end gives: all is given where it gives nothing more.
 fn at_end(turned: Turned) -> Pieced
     ensures { result ≡ ends_with turned }
 {
-    let marks = turned.marks;
-    let got = turned.got;
-    if is_more(got) {
-        return Pieced {
-            marks,
-            taken: 0,
-            got: Got::Finished,
-        };
-    }
     Pieced {
-        marks,
+        marks: turned.marks,
         taken: 0,
-        got,
+        got: match turned.got {
+            Got::More => Got::Finished,
+            given => given,
+        },
     }
 }
 
@@ -225,7 +201,7 @@ fn end_item(m: Marks, buf: &mut [u8], text: &mut [u8], start: usize, phase: Phas
         return at_end(stop(m, NOT_UTF8, m.at));
     }
     let what = finish(phase, &buf[..len]);
-    at_end(ends(m, buf, text, start, what, Beyond::End))
+    at_end(ends(m, buf, text, start, what, None))
 }
 
 // An end call on a whole buffer.
@@ -289,15 +265,12 @@ pub fn piece(state: State, piece: &[u8], text: &mut [u8]) -> Answer
         × (text.new ≡ calls.text_after (calls.piece_of state piece.now (length text.old)).what text.old) }
 {
     let mut next = state;
-    let marks = next.marks;
-    let r = piece_in(marks, &mut next.buf, piece, text);
-    let after = r.marks;
-    next.marks = after;
-    let got = r.got;
+    let r = piece_in(next.marks, &mut next.buf, piece, text);
+    next.marks = r.marks;
     Answer {
         state: next,
         taken: r.taken,
-        got,
+        got: r.got,
     }
 }
 
@@ -307,14 +280,11 @@ pub fn end(state: State, text: &mut [u8]) -> Answer
         × (text.new ≡ calls.text_after (calls.end_of state (length text.old)).what text.old) }
 {
     let mut next = state;
-    let marks = next.marks;
-    let r = end_in(marks, &mut next.buf, text);
-    let after = r.marks;
-    next.marks = after;
-    let got = r.got;
+    let r = end_in(next.marks, &mut next.buf, text);
+    next.marks = r.marks;
     Answer {
         state: next,
         taken: r.taken,
-        got,
+        got: r.got,
     }
 }

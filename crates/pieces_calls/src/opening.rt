@@ -4,9 +4,8 @@ ghost use Rattle.pieces.specs.Calls.{fresh, open_of};
 ghost use Rattle.pieces_calls.specs.Answers.{opened};
 
 use items::modes::{PLAIN, REPORT};
-use pieces::{LONGEST, Marks, Opened, Stage, Start, State};
+use pieces::{LONGEST, Marks, OpenError, Opened, Stage, State};
 use pieces_giving::marks::no_part;
-use refusal::NO_MODE;
 
 // A state at the start of a text.
 fn fresh_state(mode: u32, skip: bool) -> State
@@ -36,11 +35,11 @@ pub fn open(mode: u32, skip: bool) -> Opened
     if REPORT < mode {
         return Opened {
             state: fresh_state(PLAIN, skip),
-            start: Start::Refused(NO_MODE, mode),
+            start: Err(OpenError::NoMode(mode)),
         };
     }
     Opened {
         state: fresh_state(mode, skip),
-        start: Start::Ready,
+        start: Ok(()),
     }
 }

@@ -7,27 +7,9 @@ ghost use Rattle.std.specs.Prelude.{◌≡◌, length};
 ghost use Rattle.pieces.specs.Calls.{piece_of, end_of, text_after};
 ghost use Rattle.pieces_calls_mut.specs.Kept.{kept};
 
-use pieces::{Answer, State};
+use pieces::State;
 use pieces_calls::calls::{end, piece};
 use pieces_lent::Taken;
-
-// The state that an answer leaves.
-fn next_state(r: Answer) -> State
-    ensures { result ≡ r.state }
-{
-    r.state
-}
-
-// The rest of an answer.
-fn given(r: Answer) -> Taken
-    ensures { result ≡ record { taken = r.taken; got = r.got } }
-{
-    let got = r.got;
-    Taken {
-        taken: r.taken,
-        got,
-    }
-}
 
 // Reads on in a piece: takes the fewest bytes of it that make an item ready, or all of them.
 pub fn piece_mut(state: &mut State, bytes: &[u8], text: &mut [u8]) -> Taken
@@ -35,8 +17,11 @@ pub fn piece_mut(state: &mut State, bytes: &[u8], text: &mut [u8]) -> Taken
         × (text.new ≡ text_after (piece_of state.old bytes.now (length text.old)).what text.old) }
 {
     let r = piece(*state, bytes, text);
-    *state = next_state(r);
-    given(r)
+    *state = r.state;
+    Taken {
+        taken: r.taken,
+        got: r.got,
+    }
 }
 
 // Declares the end of the text: gives the next item, or says that all were given.
@@ -45,6 +30,9 @@ pub fn end_mut(state: &mut State, text: &mut [u8]) -> Taken
         × (text.new ≡ text_after (end_of state.old (length text.old)).what text.old) }
 {
     let r = end(*state, text);
-    *state = next_state(r);
-    given(r)
+    *state = r.state;
+    Taken {
+        taken: r.taken,
+        got: r.got,
+    }
 }

@@ -27,9 +27,9 @@ module _ (source : List ℕ) (to calls : ℕ) (s : Standing) where
     unfolding hand_over
     piece_taken h l = rw (one_less calls pos, ← e, h, le-leb to (taken_by after) l)
 
-    pub piece_on : is_over after ≡ false → taken_by after < to → hand_over source to calls s ≡ hand_over source to (calls - 1) after
+    pub piece_on : (rest : ℕ) → rest ≡ calls - 1 → is_over after ≡ false → taken_by after < to → hand_over source to calls s ≡ hand_over source to rest after
     unfolding hand_over
-    piece_on h l = ap (λ (k : ℕ). hand_over source to k s) (one_less calls pos) ∙ rw (← e, h, lt-leb to (taken_by after) l)
+    piece_on rest r h l = rw r (ap (λ (k : ℕ). hand_over source to k s) (one_less calls pos) ∙ rw (← e, h, lt-leb to (taken_by after) l))
 
 -- ---- the whole text
 
@@ -47,10 +47,10 @@ module _ (source : List ℕ) (cut : Cutting) (pieces size : ℕ) (s : Standing) 
     unfolding hand_all
     all_taken h l = rw (one_less pieces pos, h, le-leb (length source) (taken_by s) l)
 
-    pub all_on : {to next : ℕ} {after : Standing} → is_over s ≡ false → taken_by s < length source → to ≡ piece_end (length source) (taken_by s) size
-        → after ≡ hand_over source to most s → next ≡ next_size cut size → hand_all source cut pieces size s ≡ hand_all source cut (pieces - 1) next after
+    pub all_on : (rest : ℕ) → rest ≡ pieces - 1 → {to next : ℕ} {after : Standing} → is_over s ≡ false → taken_by s < length source → to ≡ piece_end (length source) (taken_by s) size
+        → after ≡ hand_over source to most s → next ≡ next_size cut size → hand_all source cut pieces size s ≡ hand_all source cut rest next after
     unfolding hand_all
-    all_on h l t e n = rw (n, e, t) (ap (λ (k : ℕ). hand_all source cut k size s) (one_less pieces pos) ∙ rw (h, lt-leb (length source) (taken_by s) l))
+    all_on rest r h l t e n = rw (r, n, e, t) (ap (λ (k : ℕ). hand_all source cut k size s) (one_less pieces pos) ∙ rw (h, lt-leb (length source) (taken_by s) l))
 
 -- ---- the end
 
@@ -64,9 +64,9 @@ module _ (calls : ℕ) (s : Standing) where
     unfolding hand_end
     end_over h = rw (one_less calls pos, h)
 
-    pub end_on : is_over s ≡ false → hand_end calls s ≡ hand_end (calls - 1) (end_noted s)
+    pub end_on : (rest : ℕ) → rest ≡ calls - 1 → is_over s ≡ false → hand_end calls s ≡ hand_end rest (end_noted s)
     unfolding hand_end
-    end_on h = ap (λ (k : ℕ). hand_end k s) (one_less calls pos) ∙ rw h
+    end_on rest r h = rw r (ap (λ (k : ℕ). hand_end k s) (one_less calls pos) ∙ rw h)
 
 -- ---- a text, whole
 

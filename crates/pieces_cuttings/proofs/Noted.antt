@@ -1,6 +1,6 @@
 -- What one call gave, written down: the code's tests are those of the definition, and what a call leaves of the text memory past its text
 -- is as it was.
-use Rattle.std.proofs.Common.{◌≡◌, ℕ, ◌+◌, ◌-◌, ◌*◌, ◌/◌, ◌%◌, ◌^◌, ◌<◌, ◌≤◌, Bool, true, false, List, length, take, drop, set, sym, ap, ◌∙◌, arith, length-take, length-take-le, take_all, drop_at, le-ltb, lt-ltb, le-leb}
+use Rattle.std.proofs.Common.{◌≡◌, ℕ, ◌+◌, ◌-◌, ◌*◌, ◌/◌, ◌%◌, ◌^◌, ◌<◌, ◌≤◌, Bool, true, List, length, take, drop, set, sym, ap, ◌∙◌, arith, length-take, length-take-le, take_all, drop_at, le-ltb, lt-ltb, le-leb, None}
 use native.Mathlib.Nat.{min-le_right}
 use borrow.Author.Tests.{lt-leb}
 use borrow.Rule.Slice.PartMut.{put_mid}
@@ -51,10 +51,8 @@ module _ {r : Record} {text : List ℕ} (g : Gives (Item r) text) where
               items = b.reading.items + 1;
               bytes = b.reading.bytes + r.nine.past;
               taken = taken;
-              refusal = 0;
-              place = 0;
+              ending = None;
               kept = kept;
-              over = false;
             })
             records counts texts
             ≡ note b (what_of (Item r) text) taken

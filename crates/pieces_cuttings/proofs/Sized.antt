@@ -16,8 +16,6 @@ use Rattle.items.specs.Meaning.{Text, none, source, decoded}
 use Rattle.items.specs.Whole.{limit}
 use Rattle.laws.specs.Quoted.{code}
 use Rattle.laws.proofs.Choice.{by_bool, if_all}
-use Rattle.pieces.specs.declared.Beyond.{Beyond}
-use Rattle.pieces.specs.declared.Beyond.TheVariants.{End, Char}
 use Rattle.pieces.specs.declared.Stage.{Stage}
 use Rattle.pieces.specs.declared.Stage.TheVariants.{Opening, Pound, FirstLine, Idle, Busy, Waiting, Stopped}
 use Rattle.pieces.specs.declared.State.{State}
@@ -27,7 +25,7 @@ use Rattle.pieces.specs.Calls.{second, piece_stage, piece_of, declared, replied,
 use Rattle.pieces.specs.Expected.{longest}
 use Rattle.pieces.specs.Given.{given, copied, copied_words}
 use Rattle.pieces_cuttings.specs.Inner.{Sized}
-use Rattle.std.proofs.Common.{◌≡◌, ℕ, ◌+◌, ◌&&◌, eqb, ltb, leb, List, [], ◌∷◌, ◌++◌, length, get_or, refl}
+use Rattle.std.proofs.Common.{◌≡◌, ℕ, ◌+◌, ◌&&◌, eqb, ltb, leb, List, [], ◌∷◌, ◌++◌, length, get_or, refl, None, Option, Some}
 
 -- ---- one item
 
@@ -48,17 +46,17 @@ SizedTurn (on s) = Unit {0}
 SizedTurn (off s w) = Sized w
 
 module _ (s : State) where
-  sized_gives : (st : ℕ) (last : Place) (b : Beyond) (is : List Item) → SizedTurn (gives s st last b is)
+  sized_gives : (st : ℕ) (last : Place) (b : Option ℕ) (is : List Item) → SizedTurn (gives s st last b is)
   sized_gives st last b [] = tt
   sized_gives st last b (i ∷ []) = if_all SizedTurn (s.marks.skip && eqb i.kind kind.Comment) tt (sized_given s.marks.depth (item_so_far s).bytes i)
   sized_gives st last b (i ∷ j ∷ is) = sized_given s.marks.depth (item_so_far s).bytes i
 
-  sized_ends : (st : ℕ) (o : Outcome) (b : Beyond) → SizedTurn (ends s st o b)
+  sized_ends : (st : ℕ) (o : Outcome) (b : Option ℕ) → SizedTurn (ends s st o b)
   sized_ends st o b = sized_gives st (range_after (report s) (last_of s) st o (item_so_far s)) b (extent_items (report s) (last_of s) st o (item_so_far s))
 
   sized_next : (st c : ℕ) (n : Next) → SizedTurn (on_next s st c n)
   sized_next st c (Eat p) = if_all SizedTurn (ltb longest (s.marks.len + width c)) tt tt
-  sized_next st c (Stop o) = sized_ends st o (Char c)
+  sized_next st c (Stop o) = sized_ends st o (Some c)
 
   sized_stage : (b : Stage) (c : ℕ) → SizedTurn (on_stage s b c)
   sized_stage Opening c = tt
@@ -113,8 +111,8 @@ module _ (s : State) where
   sized_replied (on u) h = tt
   sized_replied (off u w) h = h
 
-  ends_item : (st : ℕ) (o : Outcome) → SizedReply (replied (ends (declared s) st o End))
-  ends_item st o = sized_replied (ends (declared s) st o End) (sized_ends (declared s) st o End)
+  ends_item : (st : ℕ) (o : Outcome) → SizedReply (replied (ends (declared s) st o None))
+  ends_item st o = sized_replied (ends (declared s) st o None) (sized_ends (declared s) st o None)
 
   at_end_case : (b : Stage) → SizedReply (end_unless_stopped s b)
   at_end_case Opening = if_all SizedReply (eqb s.marks.part.count 0) tt tt

@@ -1,11 +1,13 @@
 -- What a reading of a text in pieces comes to, by the calls' definition (crate `pieces`, specs/Calls): the cutting says which bytes each call
 -- is handed, and what each call gives is written down.
-use Rattle.std.specs.Prelude.{ℕ, zero, suc, ◌+◌, ◌-◌, ◌*◌, ◌/◌, ◌%◌, ◌^◌, Bool, true, false, List, length, nat_le, nat_lt, slice_set, if◌then◌else◌}
+use Rattle.std.specs.Prelude.{ℕ, zero, suc, ◌+◌, ◌-◌, ◌*◌, ◌/◌, ◌%◌, ◌^◌, Bool, true, false, List, length, nat_le, nat_lt, slice_set, if◌then◌else◌, Option, None, Some, is_some}
 use Rattle.items.specs.Items.{record_words}
 use Rattle.pieces.specs.declared.State.{State}
 use Rattle.pieces.specs.Calls.{What, item, more, finished, refused, Reply, laid_at, piece_of, end_of, open_of}
 use Rattle.pieces.specs.Given.{Given}
 use Rattle.pieces_cuttings.specs.declared.Cutting.{Cutting}
+use Rattle.pieces_cuttings.specs.declared.Ending.{Ending}
+use Rattle.pieces_cuttings.specs.declared.Ending.TheVariants.{Finished, Refused}
 use Rattle.pieces_cuttings.specs.declared.Reading.{Reading}
 use Rattle.pieces_cuttings.specs.declared.ReadingAndState.{ReadingAndState}
 use Rattle.pieces_cuttings.specs.Parts.{part_of}
@@ -31,11 +33,11 @@ abbrev pub notes : Reading → List ℕ → List ℕ → List ℕ → Notes
 notes r records counts texts = record { reading = r; records = records; counts = counts; texts = texts }
 
 abbrev pub unread : Reading
-unread = record { items = 0; bytes = 0; taken = 0; refusal = 0; place = 0; kept = true; over = false }
+unread = record { items = 0; bytes = 0; taken = 0; ending = None; kept = true }
 
 -- a memory has no room for what was given
 abbrev pub broken : Reading → Reading
-broken r = record { items = r.items; bytes = r.bytes; taken = r.taken; refusal = 0; place = 0; kept = false; over = true }
+broken r = record { items = r.items; bytes = r.bytes; taken = r.taken; ending = Some Finished; kept = false }
 
 abbrev pub breaks : Notes → Notes
 breaks b = notes (broken b.reading) b.records b.counts b.texts
@@ -44,7 +46,7 @@ breaks b = notes (broken b.reading) b.records b.counts b.texts
 -- the text that it gives, so `kept` stays
 abbrev pub one_more : Reading → ℕ → ℕ → Reading
 one_more r n taken =
-    record { items = r.items + 1; bytes = r.bytes + n; taken = taken; refusal = 0; place = 0; kept = r.kept; over = false }
+    record { items = r.items + 1; bytes = r.bytes + n; taken = taken; ending = None; kept = r.kept }
 
 abbrev pub note_item : Notes → Given → ℕ → Notes
 note_item b g taken =
@@ -58,18 +60,17 @@ note_item b g taken =
     (laid_at bytes g.text b.texts)
 
 -- any other answer
-abbrev pub note_other : Reading → ℕ → ℕ → ℕ → Bool → Reading
-note_other r number place taken over =
-    record { items = r.items; bytes = r.bytes; taken = taken; refusal = number; place = place; kept = r.kept; over = over }
+abbrev pub note_other : Reading → Option Ending → ℕ → Reading
+note_other r e taken = record { items = r.items; bytes = r.bytes; taken = taken; ending = e; kept = r.kept }
 
-abbrev pub without : Notes → ℕ → ℕ → ℕ → Bool → Notes
-without b number place taken over = notes (note_other b.reading number place taken over) b.records b.counts b.texts
+abbrev pub without : Notes → Option Ending → ℕ → Notes
+without b e taken = notes (note_other b.reading e taken) b.records b.counts b.texts
 
 abbrev pub note : Notes → What → ℕ → Notes
 note b (item g) taken = note_item b g taken
-note b more taken = without b 0 0 taken false
-note b finished taken = without b 0 0 taken true
-note b (refused number place) taken = without b number place taken true
+note b more taken = without b None taken
+note b finished taken = without b (Some Finished) taken
+note b (refused number place) taken = without b (Some (Refused number place)) taken
 
 -- ---- the calls
 
@@ -92,7 +93,7 @@ unfoldable pub end_noted : Standing → Standing
 end_noted s = replied s (end_of s.state room)
 
 abbrev pub is_over : Standing → Bool
-is_over s = s.notes.reading.over
+is_over s = is_some s.notes.reading.ending
 
 abbrev pub taken_by : Standing → ℕ
 taken_by s = s.notes.reading.taken

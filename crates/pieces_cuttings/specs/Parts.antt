@@ -1,5 +1,5 @@
 -- Parts of what is lent to the programs' aids.
-use Rattle.std.specs.Prelude.{ℕ, ◌+◌, ◌-◌, ◌*◌, ◌/◌, List, [], length, nat_le, nat_lt, slice_index, slice_range, if◌then◌else◌}
+use Rattle.std.specs.Prelude.{ℕ, ◌+◌, ◌*◌, ◌/◌, List, [], length, nat_le, nat_lt, slice_index, slice_range, if◌then◌else◌}
 use Rattle.items.specs.declared.Record.{Record}
 use Rattle.items.specs.Items.{record_words}
 

@@ -1,10 +1,13 @@
 // Hands a text over, piece by piece as its cutting says, and declares its end.
-ghost use Rattle.std.specs.Prelude.{◌≡◌, length};
+ghost use Rattle.std.specs.Prelude.{◌≡◌, ◌+◌, ◌%◌, ◌^◌, length};
+ghost use Rattle.pieces_calls.specs.Answers.{what_of};
+ghost use Rattle.pieces_cuttings.specs.Inner.{Gives};
 ghost use Rattle.pieces_cuttings.specs.Notes as notes;
 
 use crate::noting::{note, unread};
 use crate::parts::part;
 use crate::{Cutting, MARK_BYTE, Reading, ReadingAndState};
+use pieces::Answer;
 use pieces_calls::calls::{end, piece};
 use pieces_calls::opening::open;
 
@@ -13,6 +16,29 @@ const TEXT: usize = 4100;
 
 // More calls than any reading makes: each loop ends, whatever the calls give.
 const MOST_CALLS: u64 = 1_000_000;
+
+// What a call answered, written down.
+fn noted(
+    before: Reading,
+    answer: Answer,
+    text: &[u8],
+    records: &mut [u32],
+    counts: &mut [usize],
+    texts: &mut [u8],
+) -> ReadingAndState
+    requires { Gives answer.got text.now }
+    ensures { notes.standing result records.new counts.new texts.new ≡ record {
+      state = answer.state;
+      notes = notes.note (notes.notes before records.old counts.old texts.old) (what_of answer.got text.now)
+          ((before.taken + answer.taken) % 2 ^ 64);
+    } }
+{
+    let taken = std::num::wrapping_add_usize(before.taken, answer.taken);
+    ReadingAndState {
+        state: answer.state,
+        reading: note(before, answer.got, taken, text, records, counts, texts),
+    }
+}
 
 // One piece call: the bytes of the text that were not taken yet, up to a place.
 fn call_piece(
@@ -27,17 +53,9 @@ fn call_piece(
         ≡ notes.piece_noted source.now to (notes.standing stand records.old counts.old texts.old) }
 {
     let mut text = [MARK_BYTE; TEXT];
-    let state = stand.state;
     let before = stand.reading;
-    let answer = piece(state, part(source, before.taken, to), &mut text);
-    let after = answer.state;
-    let got = answer.got;
-    let taken = std::num::wrapping_add_usize(before.taken, answer.taken);
-    let reading = note(before, got, taken, &text, records, counts, texts);
-    ReadingAndState {
-        state: after,
-        reading,
-    }
+    let answer = piece(stand.state, part(source, before.taken, to), &mut text);
+    noted(before, answer, &text, records, counts, texts)
 }
 
 // One end call.
@@ -51,17 +69,8 @@ fn call_end(
         ≡ notes.end_noted (notes.standing stand records.old counts.old texts.old) }
 {
     let mut text = [MARK_BYTE; TEXT];
-    let state = stand.state;
-    let before = stand.reading;
-    let answer = end(state, &mut text);
-    let after = answer.state;
-    let got = answer.got;
-    let taken = std::num::wrapping_add_usize(before.taken, answer.taken);
-    let reading = note(before, got, taken, &text, records, counts, texts);
-    ReadingAndState {
-        state: after,
-        reading,
-    }
+    let answer = end(stand.state, &mut text);
+    noted(stand.reading, answer, &text, records, counts, texts)
 }
 
 // Hands over the bytes up to a place, until all of them are taken; an empty piece once.
@@ -77,17 +86,14 @@ fn hand_over(
         ≡ notes.hand_over source.now to notes.most (notes.standing stand records.old counts.old texts.old) }
 {
     let mut now = stand;
-    let mut calls = MOST_CALLS;
-    while calls > 0 {
+    for _ in 0..MOST_CALLS {
         now = call_piece(now, source, to, records, counts, texts);
-        let reading = now.reading;
-        if reading.over {
+        if now.reading.ending.is_some() {
             return now;
         }
-        if to <= reading.taken {
+        if to <= now.reading.taken {
             return now;
         }
-        calls = calls - 1;
     }
     now
 }
@@ -132,19 +138,16 @@ fn hand_all(
 {
     let mut now = stand;
     let mut size = cutting.first;
-    let mut pieces = MOST_CALLS;
-    while pieces > 0 {
-        let reading = now.reading;
-        if reading.over {
+    for _ in 0..MOST_CALLS {
+        if now.reading.ending.is_some() {
             return now;
         }
-        if source.len() <= reading.taken {
+        if source.len() <= now.reading.taken {
             return now;
         }
-        let to = piece_end(source, reading.taken, size);
+        let to = piece_end(source, now.reading.taken, size);
         now = hand_over(now, source, to, records, counts, texts);
         size = next_size(cutting, size);
-        pieces = pieces - 1;
     }
     now
 }
@@ -160,14 +163,11 @@ fn hand_end(
         ≡ notes.hand_end notes.most (notes.standing stand records.old counts.old texts.old) }
 {
     let mut now = stand;
-    let mut calls = MOST_CALLS;
-    while calls > 0 {
-        let reading = now.reading;
-        if reading.over {
+    for _ in 0..MOST_CALLS {
+        if now.reading.ending.is_some() {
             return now;
         }
         now = call_end(now, records, counts, texts);
-        calls = calls - 1;
     }
     now
 }
@@ -187,13 +187,11 @@ pub fn read(
         ≡ notes.read_of source.now cutting mode skip records.old counts.old texts.old }
 {
     let opened = open(mode, skip);
-    let state = opened.state;
     let first = ReadingAndState {
-        state,
+        state: opened.state,
         reading: unread(),
     };
     let handed = hand_all(first, source, cutting, records, counts, texts);
     let last = hand_end(handed, records, counts, texts);
-    let reading = last.reading;
-    reading
+    last.reading
 }

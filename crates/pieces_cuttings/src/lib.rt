@@ -20,6 +20,13 @@ pub struct Cutting {
     pub high: usize,
 }
 
+// How a reading ended: all was given, or a refusal's number and place.
+#[derive(Clone, Copy)]
+pub enum Ending {
+    Finished,
+    Refused(u32, usize),
+}
+
 // What a reading has come to.
 #[derive(Clone, Copy)]
 pub struct Reading {
@@ -28,13 +35,10 @@ pub struct Reading {
     pub bytes: usize,
     // how many bytes of the text were taken
     pub taken: usize,
-    // 0, or the number of the refusal that ended the reading, and its place
-    pub refusal: u32,
-    pub place: usize,
+    // how it ended, once it has
+    pub ending: Option<Ending>,
     // whether each call left all bytes of the text memory but those of the item's text as they were
     pub kept: bool,
-    // whether all was given, or a refusal ended the reading
-    pub over: bool,
 }
 
 // The same, and the state.

@@ -5,7 +5,7 @@ ghost use Rattle.pieces_cuttings.specs.Inner.{unwritten, is_unwritten, Gives};
 ghost use Rattle.pieces_cuttings.specs.Notes as notes;
 
 use crate::parts::copy;
-use crate::{MARK_BYTE, Reading};
+use crate::{Ending, MARK_BYTE, Reading};
 use items::{RECORD_WORDS, Record};
 use meaning::records::put;
 use pieces::Got;
@@ -18,10 +18,8 @@ pub fn unread() -> Reading
         items: 0,
         bytes: 0,
         taken: 0,
-        refusal: 0,
-        place: 0,
+        ending: None,
         kept: true,
-        over: false,
     }
 }
 
@@ -29,12 +27,10 @@ pub fn unread() -> Reading
 fn marked(text: &[u8]) -> bool
     ensures { result ≡ is_unwritten text.now }
 {
-    let mut i = 0;
-    while i < text.len() {
-        if text[i] != MARK_BYTE {
+    for byte in text {
+        if *byte != MARK_BYTE {
             return false;
         }
-        i += 1;
     }
     true
 }
@@ -44,13 +40,9 @@ fn broken(before: Reading) -> Reading
     ensures { result ≡ notes.broken before }
 {
     Reading {
-        items: before.items,
-        bytes: before.bytes,
-        taken: before.taken,
-        refusal: 0,
-        place: 0,
+        ending: Some(Ending::Finished),
         kept: false,
-        over: true,
+        ..before
     }
 }
 
@@ -94,33 +86,21 @@ fn note_item(
         items: items + 1,
         bytes: bytes + past,
         taken,
-        refusal: 0,
-        place: 0,
+        ending: None,
         kept: before.kept && marked(&text[past..]),
-        over: false,
     }
 }
 
 // The reading after an answer that gives no item.
-fn note_other(
-    before: Reading,
-    refusal: u32,
-    place: usize,
-    taken: usize,
-    over: bool,
-    text: &[u8],
-) -> Reading
+fn note_other(before: Reading, ending: Option<Ending>, taken: usize, text: &[u8]) -> Reading
     requires { text.now ≡ unwritten }
-    ensures { result ≡ notes.note_other before refusal place taken over }
+    ensures { result ≡ notes.note_other before ending taken }
 {
     Reading {
-        items: before.items,
-        bytes: before.bytes,
         taken,
-        refusal,
-        place,
+        ending,
         kept: before.kept && marked(text),
-        over,
+        ..before
     }
 }
 
@@ -140,8 +120,10 @@ pub fn note(
 {
     match got {
         Got::Item(r) => note_item(before, r, taken, text, records, counts, texts),
-        Got::More => note_other(before, 0, 0, taken, false, text),
-        Got::Finished => note_other(before, 0, 0, taken, true, text),
-        Got::Refused(refusal, place) => note_other(before, refusal, place, taken, true, text),
+        Got::More => note_other(before, None, taken, text),
+        Got::Finished => note_other(before, Some(Ending::Finished), taken, text),
+        Got::Refused(refusal, place) => {
+            note_other(before, Some(Ending::Refused(refusal, place)), taken, text)
+        }
     }
 }

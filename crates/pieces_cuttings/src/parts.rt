@@ -9,14 +9,8 @@ use items::{Nine, RECORD_WORDS, Record};
 pub fn copy(from: &[u8], to: &mut [u8])
     ensures { to.new ≡ written (take (length to.old) from.now) to.old }
 {
-    let mut i = 0;
-    while i < from.len() {
-        if to.len() <= i {
-            return;
-        }
-        to[i] = from[i];
-        i += 1;
-    }
+    let count = from.len().min(to.len());
+    to[..count].copy_from_slice(&from[..count]);
 }
 
 // The record at so many records from the start; an empty one where there is none.

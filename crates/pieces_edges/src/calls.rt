@@ -14,11 +14,11 @@ use crate::show::{end_line, number, print, record, runs};
 use crate::standing;
 use chars::Begun;
 use items::modes::PLAIN;
-use pieces::{Answer, Got, LONGEST, Marks, Part, Stage, Start, State};
+use pieces::{Answer, Got, LONGEST, Marks, OpenError, Part, Stage, State};
 use pieces_calls::calls::{end, piece};
 use pieces_calls::opening::open;
 use pieces_cuttings::{MARK_BYTE, part};
-use refusal::{LIMIT, TOO_FEW};
+use refusal::{LIMIT, NO_MODE, TOO_FEW};
 use std::io;
 use std::rt::Files;
 
@@ -47,10 +47,9 @@ struct CallsStand {
 
 // What a call answers, and the text memory after it.
 fn answer(rt: &impl Print, a: Answer, text: &[u8]) -> io::Result<()> {
-    let got = a.got;
     print(rt, b"  taken ")?;
     number(rt, a.taken as u64)?;
-    match got {
+    match a.got {
         Got::Item(r) => {
             print(rt, b"item ")?;
             record(rt, r)?;
@@ -68,69 +67,49 @@ fn answer(rt: &impl Print, a: Answer, text: &[u8]) -> io::Result<()> {
     end_line(rt)
 }
 
-// A piece call, whose answer is printed or not.
-fn on_piece(rt: &impl Print, state: State, bytes: &[u8], told: bool) -> io::Result<State> {
-    let mut text = [MARK_BYTE; ENOUGH];
-    let a = piece(state, bytes, &mut text);
+// A piece call, with this text memory, whose answer is printed or not.
+fn on_piece(
+    rt: &impl Print,
+    state: State,
+    bytes: &[u8],
+    told: bool,
+    text: &mut [u8],
+) -> io::Result<State> {
+    let a = piece(state, bytes, text);
     if told {
-        answer(rt, a, &text)?;
+        answer(rt, a, text)?;
     }
-    let after = a.state;
-    Ok(after)
+    Ok(a.state)
 }
 
-// The same with a text memory that is a byte too short.
-fn on_piece_short(rt: &impl Print, state: State, bytes: &[u8]) -> io::Result<State> {
-    let mut text = [MARK_BYTE; A_BYTE_LESS];
-    let a = piece(state, bytes, &mut text);
-    answer(rt, a, &text)?;
-    let after = a.state;
-    Ok(after)
-}
-
-// An end call, whose answer is printed or not.
-fn on_end(rt: &impl Print, state: State, told: bool) -> io::Result<State> {
-    let mut text = [MARK_BYTE; ENOUGH];
-    let a = end(state, &mut text);
+// An end call, with this text memory, whose answer is printed or not.
+fn on_end(rt: &impl Print, state: State, told: bool, text: &mut [u8]) -> io::Result<State> {
+    let a = end(state, text);
     if told {
-        answer(rt, a, &text)?;
+        answer(rt, a, text)?;
     }
-    let after = a.state;
-    Ok(after)
-}
-
-// The same with a text memory that is a byte too short.
-fn on_end_short(rt: &impl Print, state: State) -> io::Result<State> {
-    let mut text = [MARK_BYTE; A_BYTE_LESS];
-    let a = end(state, &mut text);
-    answer(rt, a, &text)?;
-    let after = a.state;
-    Ok(after)
+    Ok(a.state)
 }
 
 // A plain state, comments kept.
 fn fresh() -> State {
-    let opened = open(PLAIN, false);
-    let state = opened.state;
-    state
+    open(PLAIN, false).state
 }
 
 // Opening in a mode that there is not: refused, with a plain state.
 fn no_mode(rt: &impl Print) -> io::Result<()> {
     print(rt, b"mode 2\n")?;
     let no = open(UNKNOWN_MODE, false);
-    let start = no.start;
-    let state = no.state;
-    match start {
-        Start::Ready => print(rt, b"  ready")?,
-        Start::Refused(refusal, mode) => {
+    match no.start {
+        Ok(()) => print(rt, b"  ready")?,
+        Err(OpenError::NoMode(mode)) => {
             print(rt, b"  refused ")?;
-            number(rt, refusal as u64)?;
+            number(rt, NO_MODE as u64)?;
             number(rt, mode as u64)?;
         }
     }
     end_line(rt)?;
-    standing::show(rt, state)
+    standing::show(rt, no.state)
 }
 
 // A character begun that wants no more bytes.
@@ -146,23 +125,6 @@ fn full_part() -> Part {
     }
 }
 
-// The marks with a stop that there is not.
-fn no_stop(m: Marks) -> Marks {
-    let part = m.part;
-    Marks {
-        mode: m.mode,
-        skip: m.skip,
-        ended: m.ended,
-        stage: Stage::Stopped(NO_STOP, 0),
-        at: m.at,
-        part,
-        from: m.from,
-        to: m.to,
-        len: m.len,
-        depth: m.depth,
-    }
-}
-
 // The marks with one of them another, by a letter.
 fn forged(m: Marks, letter: u8) -> Marks {
     let mut next = m;
@@ -175,7 +137,7 @@ fn forged(m: Marks, letter: u8) -> Marks {
         b'l' => next.len = PAST_LONGEST,
         b'k' => next.len = 1,
         b'd' => next.depth = UNLIKELY_DEPTH,
-        b'x' => return no_stop(next),
+        b'x' => next.stage = Stage::Stopped(NO_STOP, 0),
         _ => (),
     }
     next
@@ -184,28 +146,29 @@ fn forged(m: Marks, letter: u8) -> Marks {
 // The state with one of its marks another, by a letter.
 fn forge(state: State, letter: u8) -> State {
     let mut next = state;
-    let m = next.marks;
-    next.marks = forged(m, letter);
+    next.marks = forged(state.marks, letter);
     next
 }
 
 // The state after a call, by a letter.
 fn call(rt: &impl Print, state: State, letter: u8, bytes: &[u8]) -> io::Result<State> {
+    let mut text = [MARK_BYTE; ENOUGH];
     match letter {
-        b'p' => on_piece(rt, state, bytes, true),
-        b'q' => on_piece(rt, state, bytes, false),
-        b'e' => on_end(rt, state, true),
-        b'f' => on_end(rt, state, false),
+        b'p' => on_piece(rt, state, bytes, true, &mut text),
+        b'q' => on_piece(rt, state, bytes, false, &mut text),
+        b'e' => on_end(rt, state, true, &mut text),
+        b'f' => on_end(rt, state, false, &mut text),
         _ => Ok(forge(state, letter)),
     }
 }
 
 // The same with a text memory that is a byte too short.
 fn call_short(rt: &impl Print, state: State, letter: u8, bytes: &[u8]) -> io::Result<State> {
+    let mut text = [MARK_BYTE; A_BYTE_LESS];
     if letter == b'p' {
-        return on_piece_short(rt, state, bytes);
+        return on_piece(rt, state, bytes, true, &mut text);
     }
-    on_end_short(rt, state)
+    on_end(rt, state, true, &mut text)
 }
 
 // What a letter prints beside answers.
@@ -261,14 +224,12 @@ fn step_line(rt: &impl Print, stand: CallsStand, line: &[u8]) -> io::Result<Call
 fn follow(rt: &impl Print, from: CallsStand, file: &[u8]) -> io::Result<()> {
     let mut stand = from;
     let mut at: usize = 0;
-    let mut left = MOST_LINES;
-    while left > 0 {
+    for _ in 0..MOST_LINES {
         if file.len() <= at {
-            return Ok(());
+            break;
         }
         stand = step_line(rt, stand, line(file, at))?;
         at = past_line(file, at);
-        left = left - 1;
     }
     Ok(())
 }

@@ -29,14 +29,12 @@ fn case(rt: &impl Print, job: Job, line: &[u8]) -> io::Result<()> {
 // Does it with each line.
 fn each(rt: &impl Print, job: Job, file: &[u8]) -> io::Result<()> {
     let mut at: usize = 0;
-    let mut left = MOST_LINES;
-    while left > 0 {
+    for _ in 0..MOST_LINES {
         if file.len() <= at {
-            return Ok(());
+            break;
         }
         case(rt, job, line(file, at))?;
         at = past_line(file, at);
-        left = left - 1;
     }
     Ok(())
 }

@@ -34,12 +34,10 @@ fn cut_at(rt: &impl Print, text: &[u8], at: usize) -> io::Result<()> {
 
 // The same at each place inside a character.
 fn each_cut(rt: &impl Print, text: &[u8]) -> io::Result<()> {
-    let mut at: usize = 0;
-    while at < text.len() {
+    for at in 0..text.len() {
         if continues(text[at]) {
             cut_at(rt, text, at)?;
         }
-        at += 1;
     }
     Ok(())
 }

@@ -62,13 +62,11 @@ pub fn past_line(file: &[u8], at: usize) -> usize
 fn still(tabs: u32, byte: u8) -> u32
     ensures { result ≡ still_of tabs byte }
 {
-    if byte != b'\t' {
-        return tabs;
+    if byte == b'\t' {
+        tabs.saturating_sub(1)
+    } else {
+        tabs
     }
-    if tabs == 0 {
-        return 0;
-    }
-    tabs - 1
 }
 
 // The place in a line past so many tabs.
@@ -76,15 +74,13 @@ fn past_tabs(line: &[u8], tabs: u32) -> usize
     ensures { result ≡ past_tabs tabs line.now }
 {
     let mut left = tabs;
-    let mut i = 0;
-    while i < line.len() {
+    for i in 0..line.len() {
         if left == 0 {
             return i;
         }
         left = still(left, line[i]);
-        i += 1;
     }
-    i
+    line.len()
 }
 
 // The field of a line after so many tabs.
@@ -99,10 +95,7 @@ pub fn field(line: &[u8], tabs: u32) -> &[u8]
 pub fn first(field: &[u8]) -> u8
     ensures { result ≡ slice_index field.now 0 }
 {
-    if field.len() == 0 {
-        return 0;
-    }
-    field[0]
+    field.first().copied().unwrap_or(0)
 }
 
 // Writes bytes from a place on, as far as there is room; the place past them.
@@ -121,20 +114,15 @@ pub fn put(source: &mut [u8], at: usize, bytes: &[u8]) -> usize
 fn real(byte: u8) -> u8
     ensures { result ≡ real_of byte }
 {
-    if byte == FOR_NEWLINE {
-        return b'\n';
-    }
-    byte
+    if byte == FOR_NEWLINE { b'\n' } else { byte }
 }
 
 // Puts the newlines in.
 pub fn newlines(source: &mut [u8])
     ensures { source.new ≡ map real_of source.old }
 {
-    let mut i = 0;
-    while i < source.len() {
+    for i in 0..source.len() {
         let byte = real(source[i]);
         source[i] = byte;
-        i += 1;
     }
 }

@@ -25,13 +25,9 @@ pub struct LongItem {
 
 // Writes one byte from a place on up to another, as far as there is room; that place.
 fn fill(source: &mut [u8], from: usize, to: usize, byte: u8) -> usize {
-    let mut i = from;
-    while i < to {
-        if source.len() <= i {
-            return to;
-        }
-        source[i] = byte;
-        i += 1;
+    let end = to.min(source.len());
+    if from < end {
+        source[from..end].fill(byte);
     }
     to
 }

@@ -1,9 +1,9 @@
 // What is printed: numbers, bytes in runs, items and how a reading ended.
-ghost use Rattle.std.specs.Prelude.{◌≡◌};
+ghost use Rattle.std.specs.Prelude.{◌≡◌, ◌≤◌, length};
 
 use items::Record;
 use items::modes::PLAIN;
-use pieces_cuttings::{Cutting, Reading, part, record_at};
+use pieces_cuttings::{Cutting, Ending, Reading, part, record_at};
 use std::io;
 
 // The words or bytes of the memories that a reading is written to.
@@ -23,25 +23,17 @@ pub fn end_line(rt: &impl Print) -> io::Result<()> {
     print(rt, b"\n")
 }
 
-fn wide(b: u8) -> u64 {
-    b as u64
-}
-
 // Whether the byte at a place is the last one, or another follows.
-fn ends_run(bytes: &[u8], at: usize) -> bool {
-    if bytes.len() <= at {
-        return true;
-    }
-    if bytes.len() - at == 1 {
-        return true;
-    }
-    bytes[at] != bytes[at + 1]
+fn ends_run(bytes: &[u8], at: usize) -> bool
+    requires { at ≤ length bytes.now }
+{
+    bytes.len() - at <= 1 || bytes[at] != bytes[at + 1]
 }
 
 // So many times a byte.
 fn run(rt: &impl Print, count: u64, byte: u8) -> io::Result<()> {
     print!(rt; "{count}*")?;
-    number(rt, wide(byte))
+    number(rt, u64::from(byte))
 }
 
 // Bytes, each run of the same byte as its count and the byte: 2*97 1*98 for aab.
@@ -49,15 +41,12 @@ pub fn runs(rt: &impl Print, bytes: &[u8]) -> io::Result<()>
     ensures { bytes.exit.now ≡ bytes.entry.now }
 {
     let mut count: u64 = 0;
-    let mut i = 0;
-    while i < bytes.len() {
-        let byte = bytes[i];
+    for i in 0..bytes.len() {
         count = std::num::wrapping_add_u64(count, 1);
         if ends_run(bytes, i) {
-            run(rt, count, byte)?;
+            run(rt, count, bytes[i])?;
             count = 0;
         }
-        i += 1;
     }
     Ok(())
 }
@@ -96,17 +85,11 @@ fn items(
     texts: &[u8],
 ) -> io::Result<()> {
     let mut at: usize = 0;
-    let mut n: usize = 0;
-    while n < count {
-        if counts.len() <= n {
-            return Ok(());
-        }
-        let taken = counts[n];
+    for n in 0..count.min(counts.len()) {
         let r = record_at(records, n);
         let next = std::num::wrapping_add_usize(at, r.nine.past as usize);
-        item(rt, taken, r, part(texts, at, next))?;
+        item(rt, counts[n], r, part(texts, at, next))?;
         at = next;
-        n = n + 1;
     }
     Ok(())
 }
@@ -115,17 +98,17 @@ fn items(
 fn ending(rt: &impl Print, r: Reading) -> io::Result<()> {
     print(rt, b"  at ")?;
     number(rt, r.taken as u64)?;
-    if r.refusal == 0 {
-        print(rt, b"finished")?;
-    } else {
+    if let Some(Ending::Refused(refusal, place)) = r.ending {
         print(rt, b"refused ")?;
-        number(rt, r.refusal as u64)?;
-        number(rt, r.place as u64)?;
+        number(rt, refusal as u64)?;
+        number(rt, place as u64)?;
+    } else {
+        print(rt, b"finished")?;
     }
     if !r.kept {
         print(rt, b" text memory changed")?;
     }
-    if !r.over {
+    if r.ending.is_none() {
         print(rt, b" no end")?;
     }
     end_line(rt)

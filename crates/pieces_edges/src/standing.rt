@@ -1,7 +1,7 @@
 // A piece state in print: every mark, and the buffer in runs. Of the phases of an item only those that the cases stand in have a name.
 use crate::show::{end_line, number, print, runs};
 use items::Phase;
-use pieces::{Beyond, Marks, Part, Stage, State};
+use pieces::{Marks, Part, Stage, State};
 use std::io;
 
 fn phase(rt: &impl Print, p: Phase) -> io::Result<()> {
@@ -16,10 +16,10 @@ fn phase(rt: &impl Print, p: Phase) -> io::Result<()> {
     Ok(())
 }
 
-fn beyond(rt: &impl Print, b: Beyond) -> io::Result<()> {
+fn beyond(rt: &impl Print, b: Option<u32>) -> io::Result<()> {
     match b {
-        Beyond::End => print(rt, b"End ")?,
-        Beyond::Char(c) => {
+        None => print(rt, b"End ")?,
+        Some(c) => {
             print(rt, b"Char ")?;
             number(rt, c as u64)?;
         }

@@ -1,15 +1,14 @@
 -- What an item's text is, copied into the text memory, and the record that says so.
-use Prim.Native.Nat.{ℕ, ◌+◌, ◌-◌, ◌≤◌, ◌<◌}
-use mathlib.Core.Path.{◌≡◌, sym, ap, ◌∙◌}
+use Prim.Native.Nat.{ℕ, ◌-◌, ◌≤◌}
+use mathlib.Core.Path.{◌≡◌, sym, ap}
 use mathlib.Core.Bool.{Bool, true, false}
 use mathlib.Core.List.{List, [], ◌∷◌}
-use lib.ListN.{length, take, drop, length-take, length-drop, drop_of_length-le}
-use lib.Seq.{take-nil, take_all, take-append_seam, length-take-le}
+use lib.ListN.{length, drop, length-take, length-drop}
+use lib.Seq.{take-append_seam}
 use lib.Dec.{eqb}
 use native.Mathlib.Omega.{arith}
 use Rattle.laws.specs.Lent.{written}
 use Rattle.laws.proofs.Choice.{if_all, impossible}
-use Rattle.laws.proofs.Lent.{part_rest}
 use Rattle.items.specs.Kinds as kind
 use Rattle.items.specs.Items.{Place, range, place_of}
 use Rattle.items.specs.declared.Record.{Record}
@@ -24,24 +23,6 @@ use Rattle.pieces.specs.declared.Got.TheVariants.{Item}
 use Rattle.pieces.specs.Calls.{item}
 use Rattle.pieces_giving.specs.Answers.{what_of}
 use Rattle.pieces_giving.specs.Copied.{quotes_of, copied_by, has_text, given_by}
-
--- ---- a part: as much of it as there is
-
-module _ (raw : List ℕ) (from count : ℕ) where
-  pub part_none : length raw - from ≡ 0 → take count (drop from raw) ≡ []
-  part_none h = let g : length raw ≤ from = omega arith in rw (drop_of_length-le raw g) (take-nil count)
-
-  pub part_short : length raw - from < count → take (length raw - from) (drop from raw) ≡ take count (drop from raw)
-  part_short h = part_rest raw from ∙ sym (take_all count (drop from raw) (omega (arith, length-drop from raw)))
-
-  pub part_full : take (from + count - from) (drop from raw) ≡ take count (drop from raw)
-  part_full = let e : from + count - from ≡ count = omega arith in rw e
-
-  pub length_short : length raw - from < count → length raw - from ≡ length (take count (drop from raw))
-  length_short h = sym (length-drop from raw) ∙ ap length (sym (take_all count (drop from raw) (omega (arith, length-drop from raw))))
-
-  pub length_full : count ≤ length raw - from → count ≡ length (take count (drop from raw))
-  length_full h = sym (length-take-le count (drop from raw) (omega (arith, length-drop from raw)))
 
 -- ---- an item's text
 

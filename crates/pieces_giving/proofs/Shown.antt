@@ -6,18 +6,17 @@ use mathlib.Core.List.{List, [], ◌∷◌}
 use lib.ListN.{length, drop}
 use lib.Dec.{eqb, ltb}
 use native.Mathlib.Omega.{arith}
-use Rattle.std.specs.Prelude.{if◌then◌else◌}
+use Rattle.std.specs.Prelude.{if◌then◌else◌, Option, Ok, Err, Result}
 use Rattle.laws.specs.Quoted.{code}
 use Rattle.laws.proofs.Choice.{if_all}
 use Rattle.items.specs.Kinds as kind
 use Rattle.items.specs.declared.Quotes.TheVariants.{Lines}
 use Rattle.items.specs.declared.Outcome.{Outcome}
 use Rattle.items.specs.declared.Outcome.TheVariants.{Token, Str, HereStr, Word, Run, Lined, Keyword, Character, Error, ErrorAt}
-use Rattle.items.specs.declared.CharValue.{CharValue}
-use Rattle.items.specs.declared.CharValue.TheVariants.{Scalar, Wrong, WrongAt}
-use Rattle.numbers.specs.Grammar.{parse_number}
-use Rattle.numbers.specs.declared.Parsed.{Parsed}
-use Rattle.numbers.specs.declared.Parsed.TheVariants as parsed
+use Rattle.numbers.specs.Grammar.{parse_number, Parsed}
+use Rattle.numbers.specs.declared.ParseError.TheVariants as parsed
+use Rattle.items.specs.declared.CharError.{CharError}
+use Rattle.items.specs.declared.CharError.TheVariants.{Wrong, WrongAt}
 use Rattle.items.specs.Readers.{first_is}
 use Rattle.items.specs.Meaning.{Text, none, source, decoded, Meaning, meaning_of, word_means, word_kind, run_means, escaped, unescape}
 use Rattle.items.specs.Meaning.{string_text, lined_text, here_text, character_of, char_inside, character_means}
@@ -25,7 +24,6 @@ use Rattle.items.specs.Items.{Place, item_of, items_of, range_after, standing, e
 use Rattle.meaning.specs.declared.Means.{Means}
 use Rattle.meaning.specs.declared.Meant.TheVariants.{One, Two}
 use Rattle.meaning.specs.Meant.{sized, sized_all, meant}
-use Rattle.pieces.specs.declared.Beyond.{Beyond}
 use Rattle.pieces.specs.declared.Stage.TheVariants.{Waiting}
 use Rattle.pieces.specs.declared.State.{State}
 use Rattle.pieces.specs.Given.{Given, given}
@@ -57,9 +55,9 @@ module _ (s e : ℕ) (raw : List ℕ) where
 
   run_quoted : (p : Parsed) → Q (run_means p s e raw)
   unfolding run_means
-  run_quoted (parsed.Is p) = (tt, tt)
-  run_quoted parsed.NoNumber = word_quoted
-  run_quoted parsed.ZeroDenominator = (tt, tt)
+  run_quoted (Ok p) = (tt, tt)
+  run_quoted (Err parsed.NoNumber) = word_quoted
+  run_quoted (Err parsed.ZeroDenominator) = (tt, tt)
 
   string_quoted : QuotedText raw kind.StringLiteral (string_text s e raw)
   unfolding string_text
@@ -73,10 +71,10 @@ module _ (s e : ℕ) (raw : List ℕ) where
   unfolding here_text
   here_quoted = tt
 
-  char_quoted : (v : CharValue) → Q (character_means v)
-  char_quoted (Scalar c) = (tt, tt)
-  char_quoted (Wrong n d) = (tt, tt)
-  char_quoted (WrongAt n d p) = (tt, tt)
+  char_quoted : (v : Result ℕ CharError) → Q (character_means v)
+  char_quoted (Ok c) = (tt, tt)
+  char_quoted (Err (Wrong n d)) = (tt, tt)
+  char_quoted (Err (WrongAt n d p)) = (tt, tt)
 
   quoted : (report : Bool) (o : Outcome) → Q (meaning_of report o s e raw)
   quoted report (Token k d) = (tt, tt)
@@ -105,7 +103,7 @@ shown_as depth report last s e raw m x h q = ap (λ (y : Means). given_by depth 
 
 -- ---- the items of an extent
 
-module _ (s : State) (st : ℕ) (set last : Place) (b : Beyond) where
+module _ (s : State) (st : ℕ) (set last : Place) (b : Option ℕ) where
   abbrev raw : List ℕ
   raw = (item_so_far s).bytes
 
@@ -127,7 +125,7 @@ module _ (s : State) (st : ℕ) (set last : Place) (b : Beyond) where
       ap (λ (t : Given). off (becomes s s.buf (Waiting st b) s.marks.at s.marks.len last) (item t))
       (shown_as s.marks.depth (report s) set st s.marks.at raw (record { kind = kind.Identifier; detail = 0; text = source st (st + 1) }) x e tt)
 
-module _ (s : State) (st : ℕ) (o : Outcome) (b : Beyond) (e : ℕ) (at : e ≡ s.marks.at) where
+module _ (s : State) (st : ℕ) (o : Outcome) (b : Option ℕ) (e : ℕ) (at : e ≡ s.marks.at) where
   pub ends_one : (x : Means) → meant (One x) ≡ sized_all (meaning_of (report s) o st e (item_so_far s).bytes)
       → one_given s st (range_after (report s) (standing (report s) (last_of s)) st o (item_so_far s)) (range_after (report s) (last_of s) st o (item_so_far s)) b x ≡ ends s st o b
   unfolding extent_items

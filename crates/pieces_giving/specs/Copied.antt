@@ -1,6 +1,6 @@
 -- An item as it is given, by what the code knows of it: its text by its kind and its places, or between which quotes it is decoded.
 -- proofs/Shown shows that this is what specs/Given of the crate pieces says of the item.
-use Rattle.std.specs.Prelude.{ℕ, ◌-◌, Bool, true, ◌&&◌, List, [], ◌∷◌, ◌++◌, length, take, drop, eqb, if◌then◌else◌}
+use Rattle.std.specs.Prelude.{ℕ, ◌-◌, Bool, true, ◌&&◌, List, [], ◌∷◌, ◌++◌, length, take, drop, eqb, if◌then◌else◌, Option}
 use Rattle.items.specs.Kinds as kind
 use Rattle.items.specs.declared.Quotes.{Quotes}
 use Rattle.items.specs.declared.Quotes.TheVariants.{Double, Lines}
@@ -9,7 +9,6 @@ use Rattle.items.specs.Items.{Place, range, place_of}
 use Rattle.meaning.specs.declared.Text.{Text}
 use Rattle.meaning.specs.declared.Text.TheVariants.{Nowhere, Source, Decoded}
 use Rattle.meaning.specs.declared.Means.{Means}
-use Rattle.pieces.specs.declared.Beyond.{Beyond}
 use Rattle.pieces.specs.declared.Stage.TheVariants.{Waiting}
 use Rattle.pieces.specs.declared.State.{State}
 use Rattle.pieces.specs.Given.{Given}
@@ -42,12 +41,12 @@ given_by depth report m last s e raw =
 
 -- ---- the items of an extent that starts at st, by the first of them; `set` is the range for its place, `last` the one that stands on
 
-abbrev pub one_given : State → ℕ → Place → Place → Beyond → Means → Turn
+abbrev pub one_given : State → ℕ → Place → Place → Option ℕ → Means → Turn
 one_given s st set last b m =
     if s.marks.skip && eqb m.kind kind.Comment
     then on (beyond s last b)
     else off (beyond (deeper m.kind s) last b) (item (given_by s.marks.depth (report s) m set st s.marks.at (item_so_far s).bytes))
 
-abbrev pub pair_given : State → ℕ → Place → Place → Beyond → Means → Turn
+abbrev pub pair_given : State → ℕ → Place → Place → Option ℕ → Means → Turn
 pair_given s st set last b m =
     off (becomes s s.buf (Waiting st b) s.marks.at s.marks.len last) (item (given_by s.marks.depth (report s) m set st s.marks.at (item_so_far s).bytes))

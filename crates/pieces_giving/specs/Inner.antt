@@ -1,12 +1,10 @@
 -- What the inner functions ask of their callers. No public call asks for anything.
-use Rattle.std.specs.Prelude.{ℕ, ◌+◌, ◌^◌, ◌≤◌, ◌<◌, ◌≡◌, List, length}
+use Rattle.std.specs.Prelude.{ℕ, ◌+◌, ◌^◌, ◌≤◌, ◌<◌, ◌≡◌, List, length, None, Option, Some}
 use Rattle.chars.specs.Encode.{width}
 use Rattle.items.specs.declared.Outcome.{Outcome}
 use Rattle.items.specs.Whole.{limit}
 use Rattle.meaning.specs.Meant.{error_of, last_error}
 use Rattle.meaning.specs.Places.{reach, reach_from}
-use Rattle.pieces.specs.declared.Beyond.{Beyond}
-use Rattle.pieces.specs.declared.Beyond.TheVariants.{End, Char}
 use Rattle.pieces.specs.declared.Marks.{Marks}
 use Rattle.pieces.specs.Expected.{longest}
 
@@ -32,6 +30,6 @@ pub record CharFits (c at : ℕ) : Type 0 where
   pub far : at + width c ≤ limit
   pub small : c < 2 ^ 21
 
-abbrev pub BeyondFits : Beyond → ℕ → Type 0
-BeyondFits End at = Unit {0}
-BeyondFits (Char c) at = CharFits c at
+abbrev pub BeyondFits : Option ℕ → ℕ → Type 0
+BeyondFits None at = Unit {0}
+BeyondFits (Some c) at = CharFits c at

@@ -21,7 +21,7 @@ use items::{Outcome, Record, kinds};
 use meaning::places::{range_after, range_shown};
 use meaning::records::skips;
 use meaning::{Means, Meant, Range, Text, meaning};
-use pieces::{Beyond, Got, Marks, Stage, Turned};
+use pieces::{Got, Marks, Stage, Turned};
 use steps::first_phase;
 
 // A plus is one byte.
@@ -59,12 +59,12 @@ pub fn begin(m: Marks, buf: &mut [u8], from: usize, to: usize, c: u32) -> Marks
 }
 
 // What stands beyond the items that were given: a character, or the end.
-pub fn beyond(m: Marks, buf: &mut [u8], last: Range, b: Beyond) -> Marks
+pub fn beyond(m: Marks, buf: &mut [u8], last: Range, b: Option<u32>) -> Marks
     requires { (length buf.old ≡ longest) × BeyondFits b m.at }
     ensures { state_of result buf.new ≡ calls.beyond (state_of m buf.old) (place_in last) b }
 {
     match b {
-        Beyond::End => marks_at(
+        None => marks_at(
             m,
             Stage::Idle,
             m.at,
@@ -72,7 +72,7 @@ pub fn beyond(m: Marks, buf: &mut [u8], last: Range, b: Beyond) -> Marks
             last.from as usize,
             last.to as usize,
         ),
-        Beyond::Char(c) => begin(m, buf, last.from as usize, last.to as usize, c),
+        Some(c) => begin(m, buf, last.from as usize, last.to as usize, c),
     }
 }
 
@@ -124,7 +124,7 @@ fn give_one(
     shown: Range,
     last: Range,
     one: Means,
-    b: Beyond,
+    b: Option<u32>,
 ) -> Turned
     requires { HoldsItem m buf.old text.old start × BeyondFits b m.at }
     ensures { (turn_in result buf.new text.new ≡ one_given (state_of m buf.old) start (place_in shown) (place_in last) b one)
@@ -159,7 +159,7 @@ fn give_pair(
     shown: Range,
     last: Range,
     one: Means,
-    b: Beyond,
+    b: Option<u32>,
 ) -> Turned
     requires { HoldsItem m buf.old text.old start }
     ensures { (turn_in result buf.new text.new ≡ pair_given (state_of m buf.old) start (place_in shown) (place_in last) b one)
@@ -196,7 +196,7 @@ pub fn ends(
     text: &mut [u8],
     start: usize,
     what: Outcome,
-    b: Beyond,
+    b: Option<u32>,
 ) -> Turned
     requires { HoldsItem m buf.old text.old start × OutcomeFits what × BeyondFits b m.at }
     ensures { (turn_in result buf.new text.new ≡ calls.ends (state_of m buf.old) start what b)

@@ -14,25 +14,13 @@ use meaning::places::place;
 use meaning::{Means, Range, Text};
 use pieces::Got;
 
-// How far a lies past b; 0 where it lies before.
-fn past(a: usize, b: usize) -> usize
-    ensures { result ≡ a - b }
-{
-    if a < b {
-        return 0;
-    }
-    a - b
-}
-
 // Copies the bytes of raw to the start of the text memory.
 pub fn copy_all(raw: &[u8], text: &mut [u8])
     requires { length raw.now ≤ length text.old }
     ensures { text.new ≡ written raw.now text.old }
 {
-    let mut i = 0;
-    while i < raw.len() {
+    for i in 0..raw.len() {
         text[i] = raw[i];
-        i += 1;
     }
 }
 
@@ -42,16 +30,10 @@ fn copy_part(raw: &[u8], from: usize, count: usize, text: &mut [u8]) -> usize
     ensures { (result ≡ length (take count (drop from raw.now)))
         × (text.new ≡ written (take count (drop from raw.now)) text.old) }
 {
-    let left = past(raw.len(), from);
-    if left == 0 {
-        return 0;
-    }
-    if left < count {
-        copy_all(&raw[from..], text);
-        return left;
-    }
-    copy_all(&raw[from..from + count], text);
-    count
+    let start = from.min(raw.len());
+    let copied = count.min(raw.len() - start);
+    copy_all(&raw[start..start + copied], text);
+    copied
 }
 
 // Between which quotes a decoded text of this kind stood.
@@ -59,9 +41,10 @@ fn quotes_of(kind: u32) -> Quotes
     ensures { result ≡ quotes_of kind }
 {
     if kind == kinds::STRING_LITERAL {
-        return Quotes::Double;
+        Quotes::Double
+    } else {
+        Quotes::Lines
     }
-    Quotes::Lines
 }
 
 // Copies the extent of an item with no text of its own: a number's; else nothing.
@@ -85,7 +68,7 @@ fn copy_text(kind: u32, source: Text, start: usize, raw: &[u8], text: &mut [u8])
 {
     match source {
         Text::Nowhere => copy_extent(kind, raw, text),
-        Text::Source(a, b) => copy_part(raw, past(a, start), past(b, a), text),
+        Text::Source(a, b) => copy_part(raw, a.saturating_sub(start), b.saturating_sub(a), text),
         Text::Decoded(_length) => decode(raw, QUOTE_LENGTH, quotes_of(kind), text),
     }
 }
@@ -96,8 +79,7 @@ fn has_text(kind: u32, source: Text) -> bool
 {
     match source {
         Text::Nowhere => kind == kinds::NUMBER,
-        Text::Source(_a, _b) => true,
-        Text::Decoded(_length) => true,
+        Text::Source(_, _) | Text::Decoded(_) => true,
     }
 }
 

@@ -28,16 +28,13 @@ pub fn marks_at(m: Marks, stage: Stage, at: usize, len: usize, from: usize, to: 
     ensures { result ≡ marks m stage at len (range from to) }
 {
     Marks {
-        mode: m.mode,
-        skip: m.skip,
-        ended: m.ended,
         stage,
         at,
         part: no_part(),
         from,
         to,
         len,
-        depth: m.depth,
+        ..m
     }
 }
 
@@ -45,19 +42,9 @@ pub fn marks_at(m: Marks, stage: Stage, at: usize, len: usize, from: usize, to: 
 pub fn counted(m: Marks, kind: u32) -> Marks
     ensures { result ≡ with_depth (depth_after kind m.depth) m }
 {
-    let stage = m.stage;
-    let part = m.part;
     Marks {
-        mode: m.mode,
-        skip: m.skip,
-        ended: m.ended,
-        stage,
-        at: m.at,
-        part,
-        from: m.from,
-        to: m.to,
-        len: m.len,
         depth: depth_after(kind, m.depth),
+        ..m
     }
 }
 
@@ -65,17 +52,5 @@ pub fn counted(m: Marks, kind: u32) -> Marks
 pub fn with_part(m: Marks, part: Part) -> Marks
     ensures { result ≡ begun m part }
 {
-    let stage = m.stage;
-    Marks {
-        mode: m.mode,
-        skip: m.skip,
-        ended: m.ended,
-        stage,
-        at: m.at,
-        part,
-        from: m.from,
-        to: m.to,
-        len: m.len,
-        depth: m.depth,
-    }
+    Marks { part, ..m }
 }

@@ -1,26 +1,23 @@
 -- What the end call of `pieces_lent` says of words that are known here: that all were given, or the item that ends with the text.
-use Prim.Native.Nat.{ℕ, ◌+◌, ◌≤◌, ◌<◌}
+use Rattle.std.proofs.Common.{None, Some}
+use Prim.Native.Nat.{ℕ, ◌+◌, ◌≤◌}
 use mathlib.Core.Path.{◌≡◌, refl, sym, ap, ◌∙◌}
 use mathlib.Core.Bool.{Bool, true, false, ◌&&◌}
-use mathlib.Core.List.{List, [], ◌∷◌}
+use mathlib.Core.List.{List}
 use lib.ListN.{length, take}
 use lib.Seq.{length-take-le}
 use lib.Dec.{eqb}
 use native.Mathlib.Omega.{arith}
 use borrow.Author.Tests.{eq-eqb, le-ltb}
-use Rattle.laws.specs.Lent.{written}
 use Rattle.laws.proofs.Choice.{no_yes, and_true}
 use Rattle.items.specs.Kinds as kind
-use Rattle.items.specs.Whole.{limit, in_report}
-use Rattle.items.specs.Items.{Place, standing, depth_after}
+use Rattle.items.specs.Whole.{in_report}
+use Rattle.items.specs.Items.{standing, depth_after}
 use Rattle.items.specs.Meaning.{meaning_of}
 use Rattle.items.specs.declared.Outcome.{Outcome}
-use Rattle.items.specs.declared.Phase.{Phase}
 use Rattle.items.specs.declared.Record.{Record}
-use Rattle.items.specs.Machine.{finish_of}
 use Rattle.meaning.specs.Meant.{sized_all}
 use Rattle.meaning.specs.declared.Means.{Means}
-use Rattle.pieces.specs.declared.Beyond.TheVariants.{End}
 use Rattle.pieces.specs.declared.Stage.{Stage}
 use Rattle.pieces.specs.declared.Stage.TheVariants.{Opening, Pound, FirstLine, Idle, Busy, Waiting, Stopped}
 use Rattle.pieces.specs.declared.Marks.{Marks}
@@ -28,24 +25,23 @@ use Rattle.pieces.specs.declared.State.{State}
 use Rattle.pieces.specs.declared.Got.TheVariants as got
 use Rattle.pieces.specs.Expected.{longest}
 use Rattle.pieces.specs.Bounds.{number_bounds, part_bounds, stage_bounds, is_in_bounds}
-use Rattle.pieces.specs.Calls.{item, off, finished, Reply, reply, text_after, whole, last_of, item_so_far, beyond, deeper, ends, declared, replied, unless_cut, end_stage, end_unless_stopped, end_of}
+use Rattle.pieces.specs.Calls.{item, off, finished, reply, text_after, whole, last_of, item_so_far, beyond, deeper, ends, declared, replied, end_stage, end_unless_stopped, end_of}
 use Rattle.pieces.proofs.Kept.{both}
-use Rattle.pieces_giving.specs.Answers.{state_of, what_of}
+use Rattle.pieces_giving.specs.Answers.{state_of}
 use Rattle.pieces_giving.specs.Copied.{given_by}
 use Rattle.pieces_giving.proofs.Shown.{ends_one}
 use Rattle.pieces_turns.specs.Inner.{reads_on, Sound}
 use Rattle.pieces_lent.specs.declared.Words.{Words}
-use Rattle.pieces_lent.specs.Coding.{stage_of, coded, narrow, is_code, standing as standing_for}
-use Rattle.pieces_lent.specs.Calls.{Said, lent, lend, said, worded, end_for}
+use Rattle.pieces_lent.specs.Coding.{stage_of, coded, narrow, is_code}
+use Rattle.pieces_lent.specs.Calls.{Said, lent, said, worded, end_for}
 use Rattle.pieces_lent.proofs.Back.{standing-coded, coded_is_code}
 use Rattle.pieces_spots.specs.Spots.{row_at, marks_at}
 use Rattle.pieces_quick.specs.Words.{Ready, base, spot_of}
-use Rattle.pieces_quick.specs.declared.Gift.TheVariants.{Of}
 use Rattle.pieces_quick.specs.Gives.{Copied}
 use Rattle.pieces_quick.proofs.Worded.{bit_back, words_are, first_sound, spot_narrow}
 use Rattle.pieces_quick.proofs.Giving.{said_are}
 use Rattle.pieces_last.specs.Lasts.{Lasts}
-use Rattle.pieces_last.specs.Ends.{with_end, Closing, Held, last_words, told_last, Says}
+use Rattle.pieces_last.specs.Ends.{with_end, Closing, last_words, told_last, Says}
 
 -- ---- the end call on the words of a state that reads on
 
@@ -153,17 +149,17 @@ module _ (w : Words) (C : Closing w) where
       size : w.start + length raw ≡ w.at
       size = omega (arith, held, length-take-le w.len buf (omega (arith, full, R.small)))
 
-      given : ends D w.start L.what End ≡ off (beyond (deeper m.kind D) (last_of D) End) (item (given_by w.depth report m (standing report (last_of D)) w.start w.at raw))
+      given : ends D w.start L.what None ≡ off (beyond (deeper m.kind D) (last_of D) None) (item (given_by w.depth report m (standing report (last_of D)) w.start w.at raw))
       given =
-          sym (ends_one D w.start L.what End w.at refl m
+          sym (ends_one D w.start L.what None w.at refl m
           (L.means report ∙ ap (λ (x : ℕ). sized_all (meaning_of report L.what w.start x raw)) size))
           ∙ rw (L.quiet report (standing report (last_of D)) (item_so_far D), L.quiet report (last_of D) (item_so_far D), kept)
 
       ended : end_stage D (stage_of (row_at (spot_of w)))
-          ≡ reply 0 (item (given_by w.depth report m (standing report (last_of D)) w.start w.at raw)) (beyond (deeper m.kind D) (last_of D) End)
-      ended = ap (end_stage D) (L.stands w.start) ∙ ap (λ (o : Outcome). replied (ends D w.start o End)) L.ends ∙ ap replied given
+          ≡ reply 0 (item (given_by w.depth report m (standing report (last_of D)) w.start w.at raw)) (beyond (deeper m.kind D) (last_of D) None)
+      ended = ap (end_stage D) (L.stands w.start) ∙ ap (λ (o : Outcome). replied (ends D w.start o None)) L.ends ∙ ap replied given
 
-      pub item_given_lem : (d : ℕ) → d ≡ depth_after m.kind w.depth → (r : Record) (then : List ℕ) → Copied (spot_of w) m w.depth raw text then (Of r)
+      pub item_given_lem : (d : ℕ) → d ≡ depth_after m.kind w.depth → (r : Record) (then : List ℕ) → Copied (spot_of w) m w.depth raw text then (Some r)
           → Says w buf text then (told_last (last_words w d) (got.Item r))
       unfolding coded
       item_given_lem d deep r then copied =

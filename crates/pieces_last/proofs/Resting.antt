@@ -1,5 +1,5 @@
 -- Where no item is held the end gives nothing more.
-use Prim.Native.Nat.{ℕ, ◌≤◌}
+use Prim.Native.Nat.{◌≤◌}
 use mathlib.Core.Path.{◌≡◌}
 use lib.Dec.{eqb}
 use native.Mathlib.Omega.{arith}

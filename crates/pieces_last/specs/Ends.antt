@@ -1,5 +1,5 @@
 -- What the end call answers on words that are known here.
-use Rattle.std.specs.Prelude.{ℕ, ◌≤◌, ◌<◌, ◌≡◌, List, length}
+use Rattle.std.specs.Prelude.{ℕ, ◌≤◌, ◌<◌, ◌≡◌, List, length, None, Option, Some}
 use Rattle.pieces.specs.declared.Got.{Got}
 use Rattle.pieces.specs.declared.Got.TheVariants as got
 use Rattle.pieces.specs.declared.State.{State}
@@ -11,7 +11,7 @@ use Rattle.pieces_lent.specs.Coding.{row, stage_of}
 use Rattle.pieces_lent.specs.Calls.{lent, said, end_for}
 use Rattle.pieces_quick.specs.Words.{Stands, Ready}
 use Rattle.pieces_last.specs.declared.Last.{Last}
-use Rattle.pieces_last.specs.declared.Last.TheVariants.{Given, Finished, Not}
+use Rattle.pieces_last.specs.declared.Last.TheVariants.{Item, Finished}
 
 -- ---- the words that are known here
 
@@ -95,7 +95,7 @@ told_last w g = record { words = w; taken = 0; got = g }
 abbrev pub Says : Words → List ℕ → List ℕ → List ℕ → Told → Type 0
 Says w buf text then t = (said t buf then ≡ end_for (lent w buf) (length text)) × (then ≡ text_after (end_for (lent w buf) (length text)).what text)
 
-abbrev pub Ends : Words → List ℕ → List ℕ → List ℕ → Last → Type 0
-Ends w buf text then (Given d r) = Says w buf text then (told_last (last_words w d) (got.Item r))
-Ends w buf text then Finished = Says w buf text then (told_last (with_end w 1) got.Finished)
-Ends w buf text then Not = then ≡ text
+abbrev pub Ends : Words → List ℕ → List ℕ → List ℕ → Option Last → Type 0
+Ends w buf text then (Some (Item d r)) = Says w buf text then (told_last (last_words w d) (got.Item r))
+Ends w buf text then (Some Finished) = Says w buf text then (told_last (with_end w 1) got.Finished)
+Ends w buf text then None = then ≡ text

@@ -56,11 +56,5 @@ fn is_known(w: Words) -> bool
 pub fn is_closing(w: Words, bytes: usize, room: usize) -> bool
     ensures { result ≡ true → (bytes ≡ longest) × (longest ≤ room) × Closing w }
 {
-    if bytes != LONGEST {
-        return false;
-    }
-    if room < LONGEST {
-        return false;
-    }
-    is_known(w)
+    bytes == LONGEST && LONGEST <= room && is_known(w)
 }

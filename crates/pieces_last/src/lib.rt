@@ -15,7 +15,6 @@ use meaning::Means;
 use meaning::records::depth_after;
 use pieces_lent::Words;
 use pieces_lent::codes::IDLE;
-use pieces_quick::Gift;
 use pieces_quick::finishing::{copied, decoded_record, is_escaped, skips};
 use pieces_spots::PieceSpot;
 use tells::tell_last;
@@ -25,12 +24,11 @@ mod tells;
 
 pub use closing::is_closing;
 
-// What the end gives: an item, by the brackets open past it and its record; that all were given; or nothing where it is not told here.
+// What the end gives: an item, by the brackets open past it and its record; or that all were given.
 #[derive(Clone, Copy)]
 pub enum Last {
-    Given(u64, Record),
+    Item(u64, Record),
     Finished,
-    Not,
 }
 
 // Where the reader stands, by its words.
@@ -48,42 +46,42 @@ fn spot(w: Words) -> PieceSpot
     }
 }
 
-// Gives the item that ends with the text, by its meaning.
-fn give_last(w: Words, s: PieceSpot, m: Means, buf: &[u8], text: &mut [u8]) -> Last
+// Gives the item that ends with the text, by its meaning; nothing where it is not told here.
+fn give_last(w: Words, s: PieceSpot, m: Means, buf: &[u8], text: &mut [u8]) -> Option<Last>
     requires { Held w buf.now text.old × (s ≡ spot_of w) × Lasts w.stage w.which w.detail w.start (take w.len buf.now) m }
     ensures { Ends w buf.now text.old text.new result }
 {
     if skips(w.skip, m.kind) {
-        return Last::Not;
+        return None;
     }
     let len = s.len;
     let depth = w.depth as u32;
     match copied(m, s, depth, &buf[..len], text) {
-        Gift::Of(r) => Last::Given(depth_after(m.kind, depth) as u64, r),
-        Gift::Not => Last::Not,
+        Some(r) => Some(Last::Item(depth_after(m.kind, depth) as u64, r)),
+        None => None,
     }
 }
 
 // Gives the string with an escape that ends with the text.
-fn give_decoded(w: Words, s: PieceSpot, buf: &[u8], text: &mut [u8]) -> Last
+fn give_decoded(w: Words, s: PieceSpot, buf: &[u8], text: &mut [u8]) -> Option<Last>
     requires { Held w buf.now text.old × (s ≡ spot_of w) }
     ensures { Ends w buf.now text.old text.new result }
 {
     let len = s.len;
     if !is_escaped(s.stage, s.which, &buf[..len]) {
-        return Last::Not;
+        return None;
     }
     let r = decoded_record(s, w.depth as u32, &buf[..len], text);
-    Last::Given(w.depth, r)
+    Some(Last::Item(w.depth, r))
 }
 
-// Declares the end of the text in a state that is known here: gives the last item, or says that all were given.
-pub fn end_quickly(w: Words, buf: &[u8], text: &mut [u8]) -> Last
+// Declares the end of the text in a state that is known here: gives the last item, or says that all were given; nothing where the end is not told here.
+pub fn end_quickly(w: Words, buf: &[u8], text: &mut [u8]) -> Option<Last>
     requires { Closing w × (length buf.now ≡ longest) × (longest ≤ length text.old) }
     ensures { Ends w buf.now text.old text.new result }
 {
     if w.stage <= IDLE {
-        return Last::Finished;
+        return Some(Last::Finished);
     }
     let s = spot(w);
     let len = s.len;
@@ -97,7 +95,7 @@ pub fn end_quickly(w: Words, buf: &[u8], text: &mut [u8]) -> Last
     );
     match told {
         Quick::Item(m, _, _) => give_last(w, s, m, buf, text),
-        Quick::Bracket(_, _, _) => Last::Not,
+        Quick::Bracket(_, _, _) => None,
         Quick::Other => give_decoded(w, s, buf, text),
     }
 }

@@ -1,5 +1,6 @@
 -- Words and marks: every marks come back from their words, and words that are a code are the words of what they stand for. So a state
 -- loses nothing by being kept as numbers, and a refused call leaves each word as it was.
+use Rattle.std.proofs.Common.{None, Some}
 use Prim.Native.Nat.{ℕ, zero, suc, ◌^◌}
 use mathlib.Core.Path.{◌≡◌, refl, sym, ap, ◌∙◌}
 use mathlib.Core.Bool.{Bool, true, false, ◌&&◌}
@@ -13,7 +14,6 @@ use Rattle.items.specs.declared.Outcome.{Outcome}
 use Rattle.items.specs.declared.Outcome.TheVariants.{Token, Str, HereStr, Word, Run, Lined, Keyword, Character, Error, ErrorAt}
 use Rattle.items.specs.declared.Phase.{Phase}
 use Rattle.items.specs.declared.Phase.TheVariants as ph
-use Rattle.pieces.specs.declared.Beyond.TheVariants.{End, Char}
 use Rattle.pieces.specs.declared.Stage.{Stage}
 use Rattle.pieces.specs.declared.Stage.TheVariants.{Opening, Pound, FirstLine, Idle, Busy, Waiting, Stopped}
 use Rattle.pieces.specs.declared.Marks.{Marks}
@@ -111,8 +111,8 @@ stage_back Pound = refl
 stage_back FirstLine = refl
 stage_back Idle = refl
 stage_back (Busy st p) = phase_back st p
-stage_back (Waiting st End) = refl
-stage_back (Waiting st (Char c)) = refl
+stage_back (Waiting st None) = refl
+stage_back (Waiting st (Some c)) = refl
 stage_back (Stopped n p) = refl
 
 bit_back : (b : Bool) → eqb (bit b) 1 ≡ b
@@ -257,8 +257,8 @@ stage_known Pound = refl
 stage_known FirstLine = refl
 stage_known Idle = refl
 stage_known (Busy st p) = phase_known st p
-stage_known (Waiting st End) = refl
-stage_known (Waiting st (Char c)) = refl
+stage_known (Waiting st None) = refl
+stage_known (Waiting st (Some c)) = refl
 stage_known (Stopped n p) = refl
 
 row_itself : (r : StageRow) → is_same_row r r ≡ true

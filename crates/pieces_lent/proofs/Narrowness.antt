@@ -1,5 +1,6 @@
 -- Every state that the calls produced has words that are a code: its stage's numbers and those of a character begun stay narrow, whatever
 -- bytes come. So the lent calls never refuse what they themselves left.
+use Rattle.std.proofs.Common.{None, Option, Some}
 use Rattle.refusal.specs.Refusals as refusal
 use Rattle.chars.specs.declared.Begun.{Begun}
 use Rattle.chars.specs.declared.Step.{Step}
@@ -18,8 +19,6 @@ use Rattle.items.specs.Items.{Place, Item, range_after, extent_items}
 use Rattle.items.specs.Kinds as kind
 use Rattle.items.specs.Machine.{step_of, finish_of}
 use Rattle.items.specs.Whole.{limit, is_mode}
-use Rattle.pieces.specs.declared.Beyond.{Beyond}
-use Rattle.pieces.specs.declared.Beyond.TheVariants.{End, Char}
 use Rattle.pieces.specs.declared.Stage.{Stage}
 use Rattle.pieces.specs.declared.Stage.TheVariants.{Opening, Pound, FirstLine, Idle, Busy, Waiting, Stopped}
 use Rattle.pieces.specs.declared.State.{State}
@@ -82,9 +81,9 @@ step_steps t b h =
 
 -- ---- states
 
-abbrev pub Ahead : Beyond → Type 0
-Ahead End = Unit {0}
-Ahead (Char c) = Small c
+abbrev pub Ahead : Option ℕ → Type 0
+Ahead None = Unit {0}
+Ahead (Some c) = Small c
 
 abbrev pub Staged : Stage → Type 0
 Staged Opening = Unit {0}
@@ -125,17 +124,17 @@ module _ (s : State) (h : Lean s) where
       (record { mode = h.mode; begun = none; stage = tt; depth = h.depth })
       (record { mode = h.mode; begun = none; stage = slight_first c; depth = h.depth })
 
-  lean_beyond : (last : Place) (b : Beyond) → Lean (beyond s last b)
-  lean_beyond last (Char c) = lean_begin last c
-  lean_beyond last End = record { mode = h.mode; begun = none; stage = tt; depth = h.depth }
+  lean_beyond : (last : Place) (b : Option ℕ) → Lean (beyond s last b)
+  lean_beyond last (Some c) = lean_begin last c
+  lean_beyond last None = record { mode = h.mode; begun = none; stage = tt; depth = h.depth }
 
 module _ (s : State) (h : Lean s) where
-  lean_gives : (st : ℕ) (last : Place) (b : Beyond) → Ahead b → (is : List Item) → LeanTurn (gives s st last b is)
+  lean_gives : (st : ℕ) (last : Place) (b : Option ℕ) → Ahead b → (is : List Item) → LeanTurn (gives s st last b is)
   lean_gives st last b a [] = lean_beyond s h last b
   lean_gives st last b a (i ∷ []) = if_all LeanTurn (s.marks.skip && eqb i.kind kind.Comment) (lean_beyond s h last b) (lean_beyond (deeper i.kind s) (lean_deeper i.kind s h) last b)
   lean_gives st last b a (i ∷ j ∷ is) = record { mode = h.mode; begun = none; stage = a; depth = h.depth }
 
-  lean_ends : (st : ℕ) (o : Outcome) (b : Beyond) → Ahead b → LeanTurn (ends s st o b)
+  lean_ends : (st : ℕ) (o : Outcome) (b : Option ℕ) → Ahead b → LeanTurn (ends s st o b)
   lean_ends st o b a =
       lean_gives st (range_after (report s) (last_of s) st o (item_so_far s)) b a (extent_items (report s) (last_of s) st o (item_so_far s))
 
@@ -145,7 +144,7 @@ module _ (s : State) (h : Lean s) where
   lean_next : (st c : ℕ) → Small c → (n : Next) → Eaten n → LeanTurn (on_next s st c n)
   lean_next st c z (Eat q) e =
       if_all LeanTurn (ltb longest (s.marks.len + width c)) (lean_stopped refusal.long_item st (omega arith)) (record { mode = h.mode; begun = none; stage = e; depth = h.depth })
-  lean_next st c z (Stop o) e = lean_ends st o (Char c) z
+  lean_next st c z (Stop o) e = lean_ends st o (Some c) z
 
   lean_stage : (c : ℕ) → Small c → (g : Stage) → Staged g → LeanTurn (on_stage s g c)
   lean_stage c z Opening e =
@@ -208,8 +207,8 @@ lean_replied (off s w) h = h
 lean_uncut : (s : State) → Lean s → (r : Reply) → LeanReply r → LeanReply (unless_cut s r)
 lean_uncut s h r g = if_all LeanReply (eqb s.marks.part.count 0) g (lean_stopped s h refusal.not_utf8 s.marks.at (omega arith))
 
-lean_finish : (s : State) → Lean s → (st : ℕ) (o : Outcome) → LeanReply (unless_cut s (replied (ends s st o End)))
-lean_finish s h st o = lean_uncut s h (replied (ends s st o End)) (lean_replied (ends s st o End) (lean_ends s h st o End tt))
+lean_finish : (s : State) → Lean s → (st : ℕ) (o : Outcome) → LeanReply (unless_cut s (replied (ends s st o None)))
+lean_finish s h st o = lean_uncut s h (replied (ends s st o None)) (lean_replied (ends s st o None) (lean_ends s h st o None tt))
 
 lean_last : (s : State) → Lean s → (g : Stage) → LeanReply (end_unless_stopped s g)
 lean_last s h Opening = lean_uncut (declared s) (lean_declared s h) (reply 0 finished (declared s)) (lean_declared s h)

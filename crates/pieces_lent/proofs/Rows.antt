@@ -1,11 +1,11 @@
 -- The words of every state that the calls produced are a code, since its numbers are narrow.
+use Rattle.std.proofs.Common.{None, Some}
 use Rattle.items.specs.declared.Outcome.{Outcome}
 use Rattle.items.specs.declared.Outcome.TheVariants.{Token, Str, HereStr, Word, Run, Lined, Keyword, Character, Error, ErrorAt}
 use Rattle.items.specs.declared.Phase.{Phase}
 use Rattle.items.specs.declared.Phase.TheVariants as ph
 use Rattle.items.specs.declared.Quotes.{Quotes}
 use Rattle.items.specs.declared.Quotes.TheVariants.{Double, Lines}
-use Rattle.pieces.specs.declared.Beyond.TheVariants.{End, Char}
 use Rattle.pieces.specs.declared.Stage.{Stage}
 use Rattle.pieces.specs.declared.Stage.TheVariants.{Opening, Pound, FirstLine, Idle, Busy, Waiting, Stopped}
 use Rattle.pieces.specs.declared.State.{State as ByValue}
@@ -69,8 +69,8 @@ stage_narrow Pound h = record { which = omega arith; detail = omega arith }
 stage_narrow FirstLine h = record { which = omega arith; detail = omega arith }
 stage_narrow Idle h = record { which = omega arith; detail = omega arith }
 stage_narrow (Busy st p) h = phase_narrow st p h
-stage_narrow (Waiting st End) h = record { which = omega arith; detail = omega arith }
-stage_narrow (Waiting st (Char c)) h = record { which = omega arith; detail = h }
+stage_narrow (Waiting st None) h = record { which = omega arith; detail = omega arith }
+stage_narrow (Waiting st (Some c)) h = record { which = omega arith; detail = h }
 stage_narrow (Stopped n p) h = record { which = h; detail = omega arith }
 
 pub lean_is_code : (s : ByValue) → Lean s → is_code (coded s.marks) ≡ true

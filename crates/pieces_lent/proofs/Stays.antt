@@ -5,7 +5,7 @@ use Rattle.chars.specs.declared.Step.{Step}
 use Rattle.chars.specs.declared.Step.TheVariants as steps
 use Rattle.chars.specs.Encode.{width}
 use Rattle.chars.specs.Machine.{step, told}
-use Rattle.std.specs.Prelude.{if◌then◌else◌}
+use Rattle.std.specs.Prelude.{if◌then◌else◌, None, Option, Some}
 use Rattle.laws.specs.Quoted.{code}
 use Rattle.laws.proofs.Choice.{by_bool, if_all}
 use Rattle.items.specs.declared.Phase.TheVariants.{AfterHash}
@@ -16,8 +16,6 @@ use Rattle.items.specs.Items.{Place, Item, range_after, extent_items}
 use Rattle.items.specs.Kinds as kind
 use Rattle.items.specs.Machine.{step_of, finish_of}
 use Rattle.items.specs.Whole.{limit}
-use Rattle.pieces.specs.declared.Beyond.{Beyond}
-use Rattle.pieces.specs.declared.Beyond.TheVariants.{End, Char}
 use Rattle.pieces.specs.declared.Marks.{Marks}
 use Rattle.pieces.specs.declared.Stage.{Stage}
 use Rattle.pieces.specs.declared.Stage.TheVariants.{Opening, Pound, FirstLine, Idle, Busy, Waiting, Stopped}
@@ -56,17 +54,17 @@ abbrev ReplyStops : Reply → Type 0
 ReplyStops r = Stopping r.what
 
 module _ (s : State) where
-  gives_stops : (st : ℕ) (last : Place) (b : Beyond) (is : List Item) → TurnStops (gives s st last b is)
+  gives_stops : (st : ℕ) (last : Place) (b : Option ℕ) (is : List Item) → TurnStops (gives s st last b is)
   gives_stops st last b [] = tt
   gives_stops st last b (i ∷ []) = if_all TurnStops (s.marks.skip && eqb i.kind kind.Comment) tt tt
   gives_stops st last b (i ∷ j ∷ is) = tt
 
-  ends_stops : (st : ℕ) (o : Outcome) (b : Beyond) → TurnStops (ends s st o b)
+  ends_stops : (st : ℕ) (o : Outcome) (b : Option ℕ) → TurnStops (ends s st o b)
   ends_stops st o b = gives_stops st (range_after (report s) (last_of s) st o (item_so_far s)) b (extent_items (report s) (last_of s) st o (item_so_far s))
 
   next_stops : (st c : ℕ) (n : Next) → TurnStops (on_next s st c n)
   next_stops st c (Eat q) = if_all TurnStops (ltb longest (s.marks.len + width c)) (inr (inr refl)) tt
-  next_stops st c (Stop o) = ends_stops st o (Char c)
+  next_stops st c (Stop o) = ends_stops st o (Some c)
 
   stage_stops : (c : ℕ) (g : Stage) → TurnStops (on_stage s g c)
   stage_stops c Opening = tt
@@ -130,8 +128,8 @@ module _ (s : State) where
   uncut_stops : (t : State) (r : Reply) → ReplyStops r → ReplyStops (unless_cut t r)
   uncut_stops t r h = if_all ReplyStops (eqb t.marks.part.count 0) h (inr (inl refl))
 
-  finish_stops : (t : State) (st : ℕ) (o : Outcome) → ReplyStops (unless_cut t (replied (ends t st o End)))
-  finish_stops t st o = uncut_stops t (replied (ends t st o End)) (replied_stops (ends t st o End) (ends_stops t st o End))
+  finish_stops : (t : State) (st : ℕ) (o : Outcome) → ReplyStops (unless_cut t (replied (ends t st o None)))
+  finish_stops t st o = uncut_stops t (replied (ends t st o None)) (replied_stops (ends t st o None) (ends_stops t st o None))
 
   rests_last : (g : Stage) → Rests s (end_unless_stopped s g)
   rests_last (Stopped n p) = as_it_was s n p

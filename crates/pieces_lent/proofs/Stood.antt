@@ -1,4 +1,5 @@
 -- A call on words that stand for a state that reads on is made on that state.
+use Rattle.std.proofs.Common.{Some}
 use Prim.Native.Nat.{ℕ, ◌<◌}
 use mathlib.Core.Path.{◌≡◌, refl, sym, ap, ◌∙◌}
 use mathlib.Core.Bool.{true}
@@ -16,7 +17,6 @@ use Rattle.pieces_calls.specs.Answers.{piece_in}
 use Rattle.pieces_giving.specs.Answers.{state_of}
 use Rattle.pieces_turns.specs.Inner.{reads_on, Sound}
 use Rattle.pieces_lent.specs.declared.Words.{Words}
-use Rattle.pieces_lent.specs.declared.MaybeMarks.TheVariants.{Standing}
 use Rattle.pieces_lent.specs.Coding.{stage_count, Narrowed, standing, is_code, seen}
 use Rattle.pieces_lent.proofs.Back.{narrowed}
 
@@ -26,7 +26,7 @@ unfolding is_code
 code_narrow w e =
     let a = and_true _ _ e in (ltb-true _ _ (and_true _ _ a.1).0, narrowed w (and_true _ _ (and_true _ _ a.0).0).0)
 
-pub code_seen : (w : Words) → is_code w ≡ true → seen w ≡ Standing (standing w)
+pub code_seen : (w : Words) → is_code w ≡ true → seen w ≡ Some (standing w)
 code_seen w e = rw e
 
 -- every stage that reads on does as that between items

@@ -1,20 +1,16 @@
 -- Which words stand for which marks. docs/STATE.md is this page for whoever keeps a state.
-use Rattle.std.specs.Prelude.{ℕ, ◌^◌, ◌<◌, Bool, true, false, ◌&&◌, List, [], ◌∷◌, get_or, eqb, leb, ltb, if◌then◌else◌}
+use Rattle.std.specs.Prelude.{ℕ, ◌^◌, ◌<◌, Bool, true, false, ◌&&◌, List, [], ◌∷◌, get_or, eqb, leb, ltb, if◌then◌else◌, None, Option, Some}
 use Rattle.items.specs.declared.Quotes.{Quotes}
 use Rattle.items.specs.declared.Quotes.TheVariants.{Double, Lines}
 use Rattle.items.specs.declared.Outcome.{Outcome}
 use Rattle.items.specs.declared.Outcome.TheVariants.{Token, Str, HereStr, Word, Run, Lined, Keyword, Character, Error, ErrorAt}
 use Rattle.items.specs.declared.Phase.{Phase}
 use Rattle.items.specs.declared.Phase.TheVariants as ph
-use Rattle.pieces.specs.declared.Beyond.{Beyond}
-use Rattle.pieces.specs.declared.Beyond.TheVariants.{End, Char}
 use Rattle.pieces.specs.declared.Stage.{Stage}
 use Rattle.pieces.specs.declared.Stage.TheVariants.{Opening, Pound, FirstLine, Idle, Busy, Waiting, Stopped}
 use Rattle.pieces.specs.declared.Marks.{Marks}
 use Rattle.pieces_lent.specs.declared.Words.{Words}
 use Rattle.pieces_lent.specs.declared.StageRow.{StageRow}
-use Rattle.pieces_lent.specs.declared.MaybeMarks.{MaybeMarks}
-use Rattle.pieces_lent.specs.declared.MaybeMarks.TheVariants.{Standing, Outside}
 
 -- ---- from words to marks
 
@@ -34,8 +30,8 @@ stages r =
     ∷ Pound
     ∷ FirstLine
     ∷ Idle
-    ∷ Waiting start End
-    ∷ Waiting start (Char detail)
+    ∷ Waiting start None
+    ∷ Waiting start (Some detail)
     ∷ Stopped which start
     ∷ Busy start ph.InLine
     ∷ Busy start ph.AfterComma
@@ -160,9 +156,9 @@ phase_row st (ph.Brace k from) = row 29 st (quotes_code k) 0 from 0
 phase_row st (ph.Hex k closer from digits) = row 30 st (quotes_code k) closer from digits
 phase_row st (ph.Done o) = outcome_row st o
 
-abbrev pub beyond_row : ℕ → Beyond → StageRow
-beyond_row st End = row 4 st 0 0 0 0
-beyond_row st (Char c) = row 5 st 0 c 0 0
+abbrev pub beyond_row : ℕ → Option ℕ → StageRow
+beyond_row st None = row 4 st 0 0 0 0
+beyond_row st (Some c) = row 5 st 0 c 0 0
 
 abbrev pub stage_row : Stage → StageRow
 stage_row Opening = row 0 0 0 0 0 0
@@ -242,5 +238,5 @@ unfoldable pub is_code : Words → Bool
 is_code w = narrow w && leb w.skip 1 && leb w.ended 1 && is_row (row_of w)
 
 -- what decoding gives
-abbrev pub seen : Words → MaybeMarks
-seen w = if is_code w then Standing (standing w) else Outside
+abbrev pub seen : Words → Option Marks
+seen w = if is_code w then Some (standing w) else None

@@ -1,12 +1,12 @@
 // The calls with the words by value and the buffer lent. None asks anything of its caller.
-ghost use Rattle.std.specs.Prelude.{◌≡◌, [], length, replicate};
+ghost use Rattle.std.specs.Prelude.{◌≡◌, [], length};
 ghost use Rattle.pieces.specs.Calls.{text_after};
 ghost use Rattle.pieces_lent.specs.Calls.{lent, said, told_of, piece_for, end_for, open_for};
 ghost use Rattle.pieces_lent.specs.Stood.{Stood};
 
 use crate::decoding::{decode, stand};
 use crate::encoding::{encode, fresh_words};
-use crate::{MaybeMarks, Told, Words};
+use crate::{Told, Words};
 use items::modes::{PLAIN, REPORT};
 use pieces::{Got, LONGEST, Pieced};
 use pieces_calls::calls::{end_call, piece_call, piece_on};
@@ -16,12 +16,10 @@ use refusal::{NO_MODE, OUT_OF_BOUNDS};
 fn worded(r: Pieced) -> Told
     ensures { result ≡ told_of r }
 {
-    let marks = r.marks;
-    let got = r.got;
     Told {
-        words: encode(marks),
+        words: encode(r.marks),
         taken: r.taken,
-        got,
+        got: r.got,
     }
 }
 
@@ -41,10 +39,9 @@ pub fn piece_words(words: Words, buf: &mut [u8], piece: &[u8], text: &mut [u8]) 
     ensures { (said result buf.new text.new ≡ piece_for (lent words buf.old) piece.now (length text.old))
         × (text.new ≡ text_after (piece_for (lent words buf.old) piece.now (length text.old)).what text.old) }
 {
-    let seen = decode(words);
-    match seen {
-        MaybeMarks::Standing(marks) => worded(piece_call(marks, buf, piece, text)),
-        MaybeMarks::Outside => refuse(words, OUT_OF_BOUNDS, 0),
+    match decode(words) {
+        Some(marks) => worded(piece_call(marks, buf, piece, text)),
+        None => refuse(words, OUT_OF_BOUNDS, 0),
     }
 }
 
@@ -62,10 +59,9 @@ pub fn end_words(words: Words, buf: &mut [u8], text: &mut [u8]) -> Told
     ensures { (said result buf.new text.new ≡ end_for (lent words buf.old) (length text.old))
         × (text.new ≡ text_after (end_for (lent words buf.old) (length text.old)).what text.old) }
 {
-    let seen = decode(words);
-    match seen {
-        MaybeMarks::Standing(marks) => worded(end_call(marks, buf, text)),
-        MaybeMarks::Outside => refuse(words, OUT_OF_BOUNDS, 0),
+    match decode(words) {
+        Some(marks) => worded(end_call(marks, buf, text)),
+        None => refuse(words, OUT_OF_BOUNDS, 0),
     }
 }
 
@@ -89,17 +85,6 @@ pub(crate) fn end_array(words: Words, buf: &mut [u8; LONGEST], text: &mut [u8]) 
     end_words(words, buf, text)
 }
 
-// Every byte becomes 0.
-fn clear(buf: &mut [u8])
-    ensures { buf.new ≡ replicate (length buf.old) 0 }
-{
-    let mut i = 0;
-    while i < buf.len() {
-        buf[i] = 0;
-        i += 1;
-    }
-}
-
 // Opens a state, in a mode, with comments kept or skipped; 25 where there is no such mode, with a plain state.
 pub fn open_words(mode: u32, skip: bool, buf: &mut [u8]) -> Told
     ensures { said result buf.new [] ≡ open_for mode skip buf.old }
@@ -107,7 +92,7 @@ pub fn open_words(mode: u32, skip: bool, buf: &mut [u8]) -> Told
     if buf.len() != LONGEST {
         return refuse(fresh_words(PLAIN, skip), OUT_OF_BOUNDS, 0);
     }
-    clear(buf);
+    buf.fill(0);
     if REPORT < mode {
         return refuse(fresh_words(PLAIN, skip), NO_MODE, mode as usize);
     }

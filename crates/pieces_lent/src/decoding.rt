@@ -4,10 +4,10 @@ ghost use Rattle.pieces_lent.specs.Coding as coding;
 
 use crate::codes::*;
 use crate::encoding::stage_row;
-use crate::{MaybeMarks, StageRow, Words};
+use crate::{StageRow, Words};
 use chars::Begun;
 use items::{Outcome, Phase, Quotes};
-use pieces::{Beyond, Marks, Part, Stage};
+use pieces::{Marks, Part, Stage};
 
 // Numbers narrower than a word end before these.
 const BYTE_END: u64 = 0x100;
@@ -18,9 +18,10 @@ fn quotes_of(which: u64) -> Quotes
     ensures { result ≡ coding.quotes_of which }
 {
     if which == DOUBLE {
-        return Quotes::Double;
+        Quotes::Double
+    } else {
+        Quotes::Lines
     }
-    Quotes::Lines
 }
 
 // The outcome of an item that is whole.
@@ -97,8 +98,8 @@ fn stage_of(row: StageRow) -> Stage
         POUND => Stage::Pound,
         FIRST_LINE => Stage::FirstLine,
         IDLE => Stage::Idle,
-        WAITING_END => Stage::Waiting(start, Beyond::End),
-        WAITING_CHAR => Stage::Waiting(start, Beyond::Char(row.detail as u32)),
+        WAITING_END => Stage::Waiting(start, None),
+        WAITING_CHAR => Stage::Waiting(start, Some(row.detail as u32)),
         STOPPED => Stage::Stopped(row.which as u32, start),
         _ => Stage::Busy(start, phase_of(row)),
     }
@@ -145,74 +146,46 @@ pub fn stand(words: Words) -> Marks
 }
 
 // Whether the narrower numbers are narrow.
+#[tactic(auto, unfolding(crate::specs::Coding::narrow))]
 fn narrow(words: Words) -> bool
     ensures { result ≡ coding.narrow words }
 {
-    if NARROW_END <= words.mode {
-        return false;
-    }
-    if NARROW_END <= words.which {
-        return false;
-    }
-    if NARROW_END <= words.detail {
-        return false;
-    }
-    if BYTE_END <= words.need {
-        return false;
-    }
-    if BYTE_END <= words.low {
-        return false;
-    }
-    if BYTE_END <= words.high {
-        return false;
-    }
-    if NARROW_END <= words.code {
-        return false;
-    }
-    words.depth < NARROW_END
+    words.mode < NARROW_END
+        && words.which < NARROW_END
+        && words.detail < NARROW_END
+        && words.need < BYTE_END
+        && words.low < BYTE_END
+        && words.high < BYTE_END
+        && words.code < NARROW_END
+        && words.depth < NARROW_END
 }
 
+#[tactic(auto, unfolding(crate::specs::Coding::is_same_row))]
 fn same_row(a: StageRow, b: StageRow) -> bool
     ensures { result ≡ coding.is_same_row a b }
 {
-    if a.stage != b.stage {
-        return false;
-    }
-    if a.start != b.start {
-        return false;
-    }
-    if a.which != b.which {
-        return false;
-    }
-    if a.detail != b.detail {
-        return false;
-    }
-    if a.one != b.one {
-        return false;
-    }
-    a.two == b.two
+    a == b
 }
 
 // The marks that the words stand for, if they stand for any.
-pub fn decode(words: Words) -> MaybeMarks
+pub fn decode(words: Words) -> Option<Marks>
     ensures { result ≡ coding.seen words }
 {
     if !narrow(words) {
-        return MaybeMarks::Outside;
+        return None;
     }
     if YES < words.skip {
-        return MaybeMarks::Outside;
+        return None;
     }
     if YES < words.ended {
-        return MaybeMarks::Outside;
+        return None;
     }
     if STAGES <= words.stage {
-        return MaybeMarks::Outside;
+        return None;
     }
     let marks = stand(words);
-    let stage = marks.stage;
-    if !same_row(row_of(words), stage_row(stage)) {
-        return MaybeMarks::Outside;
+    if !same_row(row_of(words), stage_row(marks.stage)) {
+        return None;
     }
-    MaybeMarks::Standing(marks)
+    Some(marks)
 }

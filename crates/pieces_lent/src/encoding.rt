@@ -6,16 +6,13 @@ ghost use Rattle.pieces_lent.specs.Coding as coding;
 use crate::codes::*;
 use crate::{StageRow, Words};
 use items::{Outcome, Phase, Quotes};
-use pieces::{Beyond, Marks, Stage};
+use pieces::{Marks, Stage};
 
 // The answer to a question.
 fn bit(yes: bool) -> u64
     ensures { result ≡ coding.bit yes }
 {
-    if yes {
-        return YES;
-    }
-    NO
+    if yes { YES } else { NO }
 }
 
 // The number of a kind of quotes.
@@ -116,12 +113,12 @@ fn phase_row(start: usize, phase: Phase) -> StageRow
 }
 
 // A pair of which one item was given.
-fn beyond_row(start: usize, beyond: Beyond) -> StageRow
+fn beyond_row(start: usize, beyond: Option<u32>) -> StageRow
     ensures { result ≡ coding.beyond_row start beyond }
 {
     match beyond {
-        Beyond::End => row(WAITING_END, start, 0, 0, 0, 0),
-        Beyond::Char(c) => row(WAITING_CHAR, start, 0, c, 0, 0),
+        None => row(WAITING_END, start, 0, 0, 0, 0),
+        Some(c) => row(WAITING_CHAR, start, 0, c, 0, 0),
     }
 }
 
@@ -143,8 +140,7 @@ pub(crate) fn stage_row(stage: Stage) -> StageRow
 pub fn encode(m: Marks) -> Words
     ensures { result ≡ coding.coded m }
 {
-    let stage = m.stage;
-    let row = stage_row(stage);
+    let row = stage_row(m.stage);
     let part = m.part;
     Words {
         mode: m.mode as u64,

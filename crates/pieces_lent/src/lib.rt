@@ -4,7 +4,7 @@
 // specs/Coding says which words stand for which marks of crate `pieces`, specs/Calls what the calls do. docs/STATE.md lists the words.
 #![tactic(auto)]
 
-use pieces::{Got, LONGEST, Marks, Start};
+use pieces::{Got, LONGEST, Marks, OpenError};
 
 pub mod calls;
 pub mod codes;
@@ -52,7 +52,7 @@ pub struct Words {
 }
 
 // A stage as numbers.
-#[derive(Clone, Copy)]
+#[derive(Clone, Copy, PartialEq)]
 pub struct StageRow {
     pub stage: u64,
     pub start: u64,
@@ -60,14 +60,6 @@ pub struct StageRow {
     pub detail: u64,
     pub one: u64,
     pub two: u64,
-}
-
-// What words stand for.
-#[derive(Clone, Copy)]
-pub enum MaybeMarks {
-    Standing(Marks),
-    // words that are the code of no marks
-    Outside,
 }
 
 // A state as the caller keeps it.
@@ -81,7 +73,7 @@ pub struct LentState {
 #[derive(Clone, Copy)]
 pub struct Fresh {
     pub state: LentState,
-    pub start: Start,
+    pub start: Result<(), OpenError>,
 }
 
 // What a call answers where the buffer alone is lent: the words after it, how many bytes of the piece were taken, and what is given.

@@ -6,8 +6,7 @@ ghost use Rattle.pieces_lent.specs.Calls.{lend, worded, freshly};
 use crate::encoding::fresh_words;
 use crate::{Fresh, LentState};
 use items::modes::{PLAIN, REPORT};
-use pieces::{LONGEST, Start};
-use refusal::NO_MODE;
+use pieces::{LONGEST, OpenError};
 
 // A state at the start of a text.
 fn fresh_state(mode: u32, skip: bool) -> LentState
@@ -26,11 +25,11 @@ pub fn open(mode: u32, skip: bool) -> Fresh
     if REPORT < mode {
         return Fresh {
             state: fresh_state(PLAIN, skip),
-            start: Start::Refused(NO_MODE, mode),
+            start: Err(OpenError::NoMode(mode)),
         };
     }
     Fresh {
         state: fresh_state(mode, skip),
-        start: Start::Ready,
+        start: Ok(()),
     }
 }

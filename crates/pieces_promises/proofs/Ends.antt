@@ -1,5 +1,6 @@
 -- An end call never says "more", in any state: what ends a reading is an item, "finished" or a refusal, and a turn that goes on is told as
 -- "finished".
+use Rattle.std.proofs.Common.{None, Option}
 use Prim.Native.Nat.{ℕ}
 use mathlib.Core.Path.{◌≡◌, refl, ap}
 use mathlib.Core.Bool.{◌&&◌}
@@ -12,8 +13,6 @@ use Rattle.items.specs.declared.Outcome.{Outcome}
 use Rattle.items.specs.declared.Phase.TheVariants.{AfterHash}
 use Rattle.items.specs.Machine.{finish_of}
 use Rattle.items.specs.Kinds as kind
-use Rattle.pieces.specs.declared.Beyond.{Beyond}
-use Rattle.pieces.specs.declared.Beyond.TheVariants.{End}
 use Rattle.pieces.specs.declared.Stage.{Stage}
 use Rattle.pieces.specs.declared.Stage.TheVariants.{Opening, Pound, FirstLine, Idle, Busy, Waiting, Stopped}
 use Rattle.pieces.specs.declared.State.{State}
@@ -31,13 +30,13 @@ asks (refused n p) = 0
 abbrev Ends : Reply → Type 0
 Ends r = asks r.what ≡ 0
 
-gives_ends : (s : State) (st : ℕ) (last : Place) (b : Beyond) (l : List Item) → Ends (replied (gives s st last b l))
+gives_ends : (s : State) (st : ℕ) (last : Place) (b : Option ℕ) (l : List Item) → Ends (replied (gives s st last b l))
 gives_ends s st last b [] = refl
 gives_ends s st last b (i ∷ []) = if_all (λ (t : Turn). Ends (replied t)) (s.marks.skip && eqb i.kind kind.Comment) refl refl
 gives_ends s st last b (i ∷ j ∷ is) = refl
 
-item_ends : (s : State) (st : ℕ) (o : Outcome) → Ends (replied (ends s st o End))
-item_ends s st o = gives_ends s st (range_after (report s) (last_of s) st o (item_so_far s)) End (extent_items (report s) (last_of s) st o (item_so_far s))
+item_ends : (s : State) (st : ℕ) (o : Outcome) → Ends (replied (ends s st o None))
+item_ends s st o = gives_ends s st (range_after (report s) (last_of s) st o (item_so_far s)) None (extent_items (report s) (last_of s) st o (item_so_far s))
 
 cut_ends : (s : State) (r : Reply) → Ends r → Ends (unless_cut s r)
 cut_ends s r h = if_all Ends (eqb s.marks.part.count 0) h refl

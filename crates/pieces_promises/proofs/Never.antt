@@ -3,11 +3,10 @@
 use Prim.Native.Nat.{ℕ, ◌<◌}
 use mathlib.Core.Path.{◌≡◌, sym, ap, ◌∙◌}
 use mathlib.Core.Bool.{Bool, true, false}
-use mathlib.Core.List.{List, [], ◌∷◌}
+use mathlib.Core.List.{List}
 use lib.ListN.{length, get_or}
 use native.Mathlib.Omega.{arith}
 use Rattle.chars.specs.Encode.{utf8, bytes_of, spelled}
-use Rattle.items.specs.Kinds as kind
 use Rattle.pieces.specs.declared.State.{State}
 use Rattle.pieces.specs.Calls.{What, item, more, finished, refused, Reply, text_after, piece_of, end_of, open_of}
 use Rattle.pieces.specs.Expected.{longest}

@@ -1,7 +1,7 @@
 -- What the calls answer to a few states and pieces: the bytes taken, what is given, and the whole state after, by computation.
 -- `pieces_calls::opening::open` ensures `opened r ≡ open_of mode skip`, `calls::piece` that `answered r text' ≡ piece_of state piece (length text)` and
 -- `text' ≡ text_after (..) text`, and `calls::end` the same with `end_of`. Each row bears the name of what it shows.
-use Rattle.std.specs.Prelude.{ℕ, ◌+◌, ◌≡◌, refl, Bool, true, false, List, [], ◌∷◌, ◌++◌, length, take, replicate}
+use Rattle.std.specs.Prelude.{ℕ, ◌+◌, ◌≡◌, refl, Bool, true, false, List, [], ◌∷◌, ◌++◌, length, take, replicate, Some}
 use Prim.Native.String.{String}
 use Rattle.laws.specs.Lent.{written}
 use Rattle.laws.specs.Quoted.{code, within}
@@ -26,7 +26,6 @@ use Rattle.items.specs.Kinds as kind
 use Rattle.items.specs.Whole.{limit}
 use Rattle.pieces.specs.declared.Stage.{Stage}
 use Rattle.pieces.specs.declared.Stage.TheVariants.{Idle, Busy, Waiting, Stopped}
-use Rattle.pieces.specs.declared.Beyond.TheVariants.{Char}
 use Rattle.pieces.specs.declared.State.{State}
 use Rattle.pieces.specs.Bounds.{is_in_bounds}
 use Rattle.pieces.specs.Calls.{What, item, more, finished, refused, Reply, reply, fresh, whole, at_depth, text_after, turn_of, feed_of, piece_of, end_of, open_of}
@@ -79,7 +78,7 @@ nearly_full = state false (Busy 0 ph.InWord) 4095 0 0 4095 (replicate longest 97
 
 -- "+a " was taken and the plus given: the word after it waits, the shortest that can
 abbrev waiting : State
-waiting = state false (Waiting 0 (Char (code " "))) 2 0 0 2 (buffer (spelled "+a"))
+waiting = state false (Waiting 0 (Some (code " "))) 2 0 0 2 (buffer (spelled "+a"))
 
 -- the first byte of a character was taken
 abbrev begun : State

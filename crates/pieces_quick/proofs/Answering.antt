@@ -10,7 +10,7 @@ use Rattle.pieces.specs.declared.Marks.{Marks}
 use Rattle.pieces.specs.declared.State.{State}
 use Rattle.pieces.specs.declared.Got.TheVariants as got
 use Rattle.pieces.specs.Expected.{longest}
-use Rattle.pieces.specs.Calls.{What, text_after, feed_of}
+use Rattle.pieces.specs.Calls.{text_after, feed_of}
 use Rattle.pieces_turns.specs.Inner.{Sound}
 use Rattle.pieces_lent.specs.declared.Words.{Words}
 use Rattle.pieces_lent.specs.declared.Told.{Told}
@@ -19,10 +19,10 @@ use Rattle.pieces_lent.specs.Stood.{Stood}
 use Rattle.pieces_lent.proofs.Back.{standing-coded}
 use Rattle.pieces_lent.specs.Calls.{Said, lent, said, worded, piece_for}
 use Rattle.pieces_spots.specs.declared.PieceSpot.{PieceSpot}
-use Rattle.pieces_quick.specs.declared.Offer.TheVariants.{Given}
+use Rattle.std.proofs.Common.{Some}
+use Rattle.pieces_quick.specs.declared.QuickItem.{QuickItem}
 use Rattle.pieces_quick.specs.declared.Reached.{Reached}
 use Rattle.pieces_quick.specs.declared.Reached.TheVariants.{More, Item, Before}
-use Rattle.items.specs.declared.Record.{Record}
 use Rattle.pieces_spots.specs.Spots.{marks_at, state_at, Fits, Goes, Onward}
 use Rattle.pieces_quick.specs.Words.{Ready, base, spot_of, stood}
 use Rattle.pieces_quick.specs.Gives.{told_at, Held, Finished, Feeds, Reaches, Comes, Says, later, Continues, Awaits, Answers}
@@ -55,9 +55,9 @@ module _ (w : Words) (left : ℕ) (R : Ready w left) (s : PieceSpot) (buf text p
       )
 
   -- an item
-  pub item_feeds : s.i < length piece → (p : PieceSpot) (d : ℕ) (r : Record) (now then : List ℕ)
-      → Finished w s (get_or piece s.i 0) buf now text then (Given p d r) → Comes w s piece buf now text then (Item p d r)
-  item_feeds h p d r now then f =
+  pub item_feeds : s.i < length piece → (q : QuickItem) (now then : List ℕ)
+      → Finished w s (get_or piece s.i 0) buf now text then (Some q) → Comes w s piece buf now text then (Item q)
+  item_feeds h q now then f =
       let front : get_or piece s.i 0 ∷ drop (suc s.i) piece ≡ drop s.i piece = sym (drop-cons piece s.i 0 h) in
       let g = f (drop (suc s.i) piece) in (
         g.0 ∙ ap (λ (l : List ℕ). worded (feed_of S l s.i)) front,
@@ -114,7 +114,7 @@ module _ (w : Words) (buf text piece : List ℕ) (full : length buf ≡ longest)
 
   pub answers : Fits s now piece → (r : Reached) (end then : List ℕ) → Comes w s piece now end text then r → Answers w piece buf end text then r
   answers fits (More p) end then f = says (told_at w p w.depth got.More) end then f
-  answers fits (Item p d r) end then f = says (told_at w p d (got.Item r)) end then f
+  answers fits (Item q) end then f = says (told_at w q.spot q.depth (got.Item q.item)) end then f
   answers fits (Before p) end then f =
       subst (λ (x : PieceSpot). Awaits w piece buf end text then x) (sym f.0)
       (subst (λ (l : List ℕ). Awaits w piece buf l text then s) (sym f.1)

@@ -1,4 +1,5 @@
 -- The item that is given here is the one that its byte's turn gives, and the words after it are those of the state after that turn.
+use Rattle.std.proofs.Common.{Some}
 use Prim.Native.Nat.{ℕ, ◌+◌, ◌-◌, ◌/◌, ◌%◌, ◌≤◌, ◌<◌}
 use mathlib.Core.Path.{◌≡◌, refl, sym, ap, ◌∙◌}
 use mathlib.Core.Bool.{Bool, true, false, ◌&&◌}
@@ -38,12 +39,11 @@ use Rattle.pieces_lent.specs.declared.LentState.{LentState}
 use Rattle.pieces_lent.specs.declared.Words.{Words}
 use Rattle.pieces.specs.Given.{Given as Gave}
 use Rattle.pieces_lent.specs.Coding.{stage_of, stage_row, coded}
-use Rattle.pieces_lent.specs.Calls.{Said, lent, lend, said, worded}
+use Rattle.pieces_lent.specs.Calls.{Said, lent, lend, worded}
 use Rattle.pieces_spots.specs.declared.PieceSpot.{PieceSpot}
 use Rattle.pieces_spots.specs.Spots.{state_at, Solid, Ended}
 use Rattle.pieces_quick.specs.Words.{Ready, base, stood}
-use Rattle.pieces_quick.specs.declared.Gift.TheVariants.{Of}
-use Rattle.pieces_quick.specs.declared.Offer.TheVariants.{Given}
+use Rattle.std.proofs.Common.{Some}
 use Rattle.pieces_quick.specs.Gives.{recorded, decoded_means, Copied, Held, Next, Finishes, Finished}
 use Rattle.pieces_spots.proofs.Turning.{width_ascii, fed_ended}
 use Rattle.pieces_quick.proofs.Worded.{stood-coded}
@@ -57,7 +57,7 @@ module _ (depth : ℕ) (m : Means) (s : PieceSpot) (raw old then : List ℕ) (r 
   put report last = sym (rw (lt-leb kind.first_error m.kind fine))
 
   pub bare_copied : has_text m.kind m.text ≡ false → then ≡ old → r ≡ recorded m.kind m.detail s.start s.at 0 0 depth
-      → Copied s m depth raw old then (Of r)
+      → Copied s m depth raw old then (Some r)
   bare_copied h same is report last =
       let none : copied_by m.kind s.start raw m.text ≡ [] = no_text m.kind s.start raw m.text h in
       let laid : then ≡ written (copied_by m.kind s.start raw m.text) old = same ∙ sym (ap (λ (l : List ℕ). written l old) none) in
@@ -65,22 +65,22 @@ module _ (depth : ℕ) (m : Means) (s : PieceSpot) (raw old then : List ℕ) (r 
 
   pub text_copied : (n : ℕ) → has_text m.kind m.text ≡ true → n ≡ length (copied_by m.kind s.start raw m.text)
       → then ≡ written (copied_by m.kind s.start raw m.text) old → r ≡ recorded m.kind m.detail s.start s.at 2 n depth
-      → Copied s m depth raw old then (Of r)
+      → Copied s m depth raw old then (Some r)
   text_copied n h size laid is report last =
       (given_with depth report m last s.start s.at raw old then place r (put report last) laid n h size is, laid)
 
   -- a number, any other item without text of its own, and a part of the extent
   pub number_copied : m.text ≡ Nowhere → eqb m.kind kind.Number ≡ true → then ≡ written raw old
-      → r ≡ recorded m.kind m.detail s.start s.at 2 (length raw) depth → Copied s m depth raw old then (Of r)
+      → r ≡ recorded m.kind m.detail s.start s.at 2 (length raw) depth → Copied s m depth raw old then (Some r)
   number_copied none e laid is = text_copied (length raw) (rw none e) (rw (none, e)) (rw (none, e) laid) is
 
   pub nothing_copied : m.text ≡ Nowhere → eqb m.kind kind.Number ≡ false → then ≡ old
-      → r ≡ recorded m.kind m.detail s.start s.at 0 0 depth → Copied s m depth raw old then (Of r)
+      → r ≡ recorded m.kind m.detail s.start s.at 0 0 depth → Copied s m depth raw old then (Some r)
   nothing_copied none e same is = bare_copied (rw none e) same is
 
   pub part_copied : (a b : ℕ) → m.text ≡ Source a b → s.start ≤ a → a ≤ b → b ≤ s.start + length raw
       → then ≡ written (take (b - s.start - (a - s.start)) (drop (a - s.start) raw)) old
-      → r ≡ recorded m.kind m.detail s.start s.at 2 (b - a) depth → Copied s m depth raw old then (Of r)
+      → r ≡ recorded m.kind m.detail s.start s.at 2 (b - a) depth → Copied s m depth raw old then (Some r)
   part_copied a b is-part h k l laid is =
       let n : b - s.start - (a - s.start) ≡ b - a = omega arith in
       let size : b - a ≡ length (take (b - a) (drop (a - s.start) raw)) =
@@ -158,7 +158,7 @@ module _ (w : Words) (s : PieceSpot) (buf text : List ℕ) (H : Held w s buf tex
         (E.means (in_report w.mode) ∙ ap (λ (x : ℕ). sized_all (meaning_of (in_report w.mode) E.what s.start x (take s.len buf))) l) kept rest s.i
 
     pub gives_item : (p : PieceSpot) (d : ℕ) (now : List ℕ) → p.i ≡ s.i + 1 → lent (stood w p d) now ≡ lend next
-        → Finished w s c buf now text then (Given p d r)
+        → Finished w s c buf now text then (Some (record { spot = p; depth = d; item = r }))
     gives_item p d now taken state rest =
         let g = place_free w.depth (in_report w.mode) m last (standing (in_report w.mode) (last_of S)) s.start s.at (take s.len buf) F.ended.fine in
         let what = gave ∙ ap item g in (

@@ -1,5 +1,5 @@
 -- An item that is given here.
-use Rattle.std.specs.Prelude.{ℕ, ◌+◌, ◌≤◌, ◌<◌, ◌^◌, ◌≡◌, Bool, List, [], ◌∷◌, length, take, drop}
+use Rattle.std.specs.Prelude.{ℕ, ◌+◌, ◌≤◌, ◌<◌, ◌^◌, ◌≡◌, Bool, List, [], ◌∷◌, length, take, drop, None, Option, Some}
 use Rattle.laws.specs.Lent.{written}
 use Rattle.items.specs.Kinds as kind
 use Rattle.items.specs.declared.Record.{Record}
@@ -23,10 +23,7 @@ use Rattle.pieces_lent.specs.declared.Told.{Told}
 use Rattle.pieces_lent.specs.Stood.{Stood}
 use Rattle.pieces_lent.specs.Calls.{Said, lent, lend, said, worded, piece_for}
 use Rattle.pieces_spots.specs.declared.PieceSpot.{PieceSpot}
-use Rattle.pieces_quick.specs.declared.Gift.{Gift}
-use Rattle.pieces_quick.specs.declared.Gift.TheVariants.{Of, Not}
-use Rattle.pieces_quick.specs.declared.Offer.{Offer}
-use Rattle.pieces_quick.specs.declared.Offer.TheVariants as offer
+use Rattle.pieces_quick.specs.declared.QuickItem.{QuickItem}
 use Rattle.pieces_quick.specs.declared.Reached.{Reached}
 use Rattle.pieces_quick.specs.declared.Reached.TheVariants as reached
 use Rattle.pieces_spots.specs.Spots.{marks_at, state_at, Ended, Firsts}
@@ -53,12 +50,12 @@ pub record Copying (s : PieceSpot) (m : Means) (raw text : List ℕ) : Type 0 wh
   pub fine : m.kind < kind.first_error
 
 -- it is given by this record and this text, whatever range stands
-abbrev pub Copied : PieceSpot → Means → ℕ → List ℕ → List ℕ → List ℕ → Gift → Type 0
-Copied s m depth raw text then (Of r) =
+abbrev pub Copied : PieceSpot → Means → ℕ → List ℕ → List ℕ → List ℕ → Option Record → Type 0
+Copied s m depth raw text then (Some r) =
     (report : Bool) (last : Place)
     → (what_of (Item r) then ≡ item (given_by depth report m last s.start s.at raw))
     × (then ≡ written (given_by depth report m last s.start s.at raw).text text)
-Copied s m depth raw text then Not = then ≡ text
+Copied s m depth raw text then None = then ≡ text
 
 -- ---- the item that ends before a byte
 
@@ -90,12 +87,12 @@ pub record Finishes (s : PieceSpot) (c f : ℕ) (buf : List ℕ) (m : Means) : T
 abbrev pub told_at : Words → PieceSpot → ℕ → Got → Told
 told_at w s depth g = record { words = stood w s depth; taken = s.i; got = g }
 
-abbrev pub Finished : Words → PieceSpot → ℕ → List ℕ → List ℕ → List ℕ → List ℕ → Offer → Type 0
-Finished w s c buf now text then (offer.Given p d r) =
+abbrev pub Finished : Words → PieceSpot → ℕ → List ℕ → List ℕ → List ℕ → List ℕ → Option QuickItem → Type 0
+Finished w s c buf now text then (Some q) =
     (rest : List ℕ)
-    → (said (told_at w p d (Item r)) now then ≡ worded (feed_of (state_at (base w) s buf) (c ∷ rest) s.i))
+    → (said (told_at w q.spot q.depth (Item q.item)) now then ≡ worded (feed_of (state_at (base w) s buf) (c ∷ rest) s.i))
     × (then ≡ text_after (feed_of (state_at (base w) s buf) (c ∷ rest) s.i).what text)
-Finished w s c buf now text then offer.Not = (now ≡ buf) × (then ≡ text)
+Finished w s c buf now text then None = (now ≡ buf) × (then ≡ text)
 
 -- ---- from a spot on
 
@@ -114,7 +111,7 @@ pub record Reaches (w : Words) (s : PieceSpot) (buf text : List ℕ) : Type 0 wh
 -- what comes of the bytes from a spot on: all are taken, an item is given, or the reader stands there, before a byte
 abbrev pub Comes : Words → PieceSpot → List ℕ → List ℕ → List ℕ → List ℕ → List ℕ → Reached → Type 0
 Comes w s piece buf now text then (reached.More p) = Feeds w s piece buf now text then (told_at w p w.depth More)
-Comes w s piece buf now text then (reached.Item p d r) = Feeds w s piece buf now text then (told_at w p d (Item r))
+Comes w s piece buf now text then (reached.Item q) = Feeds w s piece buf now text then (told_at w q.spot q.depth (Item q.item))
 Comes w s piece buf now text then (reached.Before p) = (p ≡ s) × (now ≡ buf) × (then ≡ text)
 
 -- what is told is what the call of `pieces_lent` says of the words
@@ -142,5 +139,5 @@ pub record Awaits (w : Words) (piece buf now text then : List ℕ) (s : PieceSpo
 
 abbrev pub Answers : Words → List ℕ → List ℕ → List ℕ → List ℕ → List ℕ → Reached → Type 0
 Answers w piece buf now text then (reached.More p) = Says w piece buf now text then (told_at w p w.depth More)
-Answers w piece buf now text then (reached.Item p d r) = Says w piece buf now text then (told_at w p d (Item r))
+Answers w piece buf now text then (reached.Item q) = Says w piece buf now text then (told_at w q.spot q.depth (Item q.item))
 Answers w piece buf now text then (reached.Before p) = Awaits w piece buf now text then p

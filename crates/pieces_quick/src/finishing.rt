@@ -9,7 +9,7 @@ ghost use Rattle.pieces_spots.specs.Spots.{Firsts};
 ghost use Rattle.pieces_quick.specs.Words.{Ready, stood};
 ghost use Rattle.pieces_quick.specs.Gives.{recorded, decoded_means, Copying, Copied, Held, Next, Finishes, Finished};
 
-use crate::{Gift, Offer};
+use crate::QuickItem;
 use escapes::{decode, has_escape};
 use items::kinds::{IN_MEMORY, NO_TEXT};
 use items::{Nine, QUOTE_LENGTH, Quotes, Record, kinds};
@@ -76,7 +76,7 @@ fn record_of(m: Means, s: PieceSpot, source: u32, past: u32, depth: u32) -> Reco
 // The record of an item without text of its own; a number's text is its extent.
 fn bare_record(m: Means, s: PieceSpot, depth: u32, raw: &[u8], text: &mut [u8]) -> Record
     requires { Copying s m raw.now text.old × (m.text ≡ Text.Nowhere) }
-    ensures { Copied s m depth raw.now text.old text.new (Gift.Of result) }
+    ensures { Copied s m depth raw.now text.old text.new (Some result) }
 {
     if m.kind == kinds::NUMBER {
         copy_all(raw, text);
@@ -94,34 +94,34 @@ fn part_record(
     depth: u32,
     raw: &[u8],
     text: &mut [u8],
-) -> Gift
+) -> Option<Record>
     requires { Copying s m raw.now text.old × (m.text ≡ Text.Source from to) }
     ensures { Copied s m depth raw.now text.old text.new result }
 {
     let start = s.start as usize;
     if from < start {
-        return Gift::Not;
+        return None;
     }
     if to < from {
-        return Gift::Not;
+        return None;
     }
     if s.at < to as u64 {
-        return Gift::Not;
+        return None;
     }
     copy_all(&raw[from - start..to - start], text);
-    Gift::Of(record_of(m, s, IN_MEMORY, (to - from) as u32, depth))
+    Some(record_of(m, s, IN_MEMORY, (to - from) as u32, depth))
 }
 
 // The record of an item by its meaning; its text is copied to the front of the text memory. Not where it has to be decoded.
-pub fn copied(m: Means, s: PieceSpot, depth: u32, raw: &[u8], text: &mut [u8]) -> Gift
+pub fn copied(m: Means, s: PieceSpot, depth: u32, raw: &[u8], text: &mut [u8]) -> Option<Record>
     requires { Copying s m raw.now text.old }
     ensures { Copied s m depth raw.now text.old text.new result }
 {
     let source = m.text;
     match source {
-        Text::Nowhere => Gift::Of(bare_record(m, s, depth, raw, text)),
+        Text::Nowhere => Some(bare_record(m, s, depth, raw, text)),
         Text::Source(from, to) => part_record(m, s, from, to, depth, raw, text),
-        Text::Decoded(_length) => Gift::Not,
+        Text::Decoded(_length) => None,
     }
 }
 
@@ -129,43 +129,52 @@ pub fn copied(m: Means, s: PieceSpot, depth: u32, raw: &[u8], text: &mut [u8]) -
 pub fn skips(skip: u64, number: u32) -> bool
     ensures { result ≡ (eqb skip 1 && eqb number kind.Comment) }
 {
-    if skip == YES {
-        return number == kinds::COMMENT;
-    }
-    false
+    skip == YES && number == kinds::COMMENT
 }
 
 // Gives an item that ends before a byte, by its meaning, and what the byte begins.
-fn given(w: Words, s: PieceSpot, b: u8, f: u64, m: Means, buf: &mut [u8], text: &mut [u8]) -> Offer
+fn given(
+    w: Words,
+    s: PieceSpot,
+    b: u8,
+    f: u64,
+    m: Means,
+    buf: &mut [u8],
+    text: &mut [u8],
+) -> Option<QuickItem>
     requires { Held w s buf.old text.old × Finishes s b f buf.old m }
     ensures { Finished w s b buf.old buf.new text.old text.new result }
 {
     if skips(w.skip, m.kind) {
-        return Offer::Not;
+        return None;
     }
     let len = s.len;
     let depth = w.depth as u32;
     match copied(m, s, depth, &buf[..len], text) {
-        Gift::Of(r) => {
+        Some(r) => {
             let next = after(s, b, f, buf);
-            Offer::Given(next, depth_after(m.kind, depth) as u64, r)
+            Some(QuickItem {
+                spot: next,
+                depth: depth_after(m.kind, depth) as u64,
+                item: r,
+            })
         }
-        Gift::Not => Offer::Not,
+        None => None,
     }
 }
 
 // Gives the item that ends before a byte, where its text need not be decoded and it is told here.
-fn finish(w: Words, s: PieceSpot, b: u8, buf: &mut [u8], text: &mut [u8]) -> Offer
+fn finish(w: Words, s: PieceSpot, b: u8, buf: &mut [u8], text: &mut [u8]) -> Option<QuickItem>
     requires { Held w s buf.old text.old }
     ensures { Finished w s b buf.old buf.new text.old text.new result }
 {
     let len = s.len;
     if s.stage <= IDLE {
-        return Offer::Not;
+        return None;
     }
     let f = first(b);
     if f < IDLE {
-        return Offer::Not;
+        return None;
     }
     let told = tell(
         s.stage,
@@ -178,8 +187,8 @@ fn finish(w: Words, s: PieceSpot, b: u8, buf: &mut [u8], text: &mut [u8]) -> Off
     );
     match told {
         Quick::Item(m, _, _) => given(w, s, b, f, m, buf, text),
-        Quick::Bracket(_, _, _) => Offer::Not,
-        Quick::Other => Offer::Not,
+        Quick::Bracket(_, _, _) => None,
+        Quick::Other => None,
     }
 }
 
@@ -187,19 +196,13 @@ fn finish(w: Words, s: PieceSpot, b: u8, buf: &mut [u8], text: &mut [u8]) -> Off
 pub fn is_escaped(stage: u64, which: u64, raw: &[u8]) -> bool
     ensures { result ≡ true → (stage ≡ 25) × (which ≡ 0) × (escaped raw.now ≡ true) }
 {
-    if stage != CLOSED {
-        return false;
-    }
-    if which != DOUBLE {
-        return false;
-    }
-    has_escape(raw)
+    stage == CLOSED && which == DOUBLE && has_escape(raw)
 }
 
 // The record of a string with an escape, whose text is decoded to the front of the text memory.
 pub fn decoded_record(s: PieceSpot, depth: u32, raw: &[u8], text: &mut [u8]) -> Record
     requires { Copying s (decoded_means raw.now) raw.now text.old }
-    ensures { Copied s (decoded_means raw.now) depth raw.now text.old text.new (Gift.Of result) }
+    ensures { Copied s (decoded_means raw.now) depth raw.now text.old text.new (Some result) }
 {
     let n = decode(raw, QUOTE_LENGTH, Quotes::Double, text);
     let m = Means {
@@ -211,46 +214,62 @@ pub fn decoded_record(s: PieceSpot, depth: u32, raw: &[u8], text: &mut [u8]) -> 
 }
 
 // Gives the string with an escape that ends before a byte.
-fn finish_decoded(w: Words, s: PieceSpot, b: u8, buf: &mut [u8], text: &mut [u8]) -> Offer
+fn finish_decoded(
+    w: Words,
+    s: PieceSpot,
+    b: u8,
+    buf: &mut [u8],
+    text: &mut [u8],
+) -> Option<QuickItem>
     requires { Held w s buf.old text.old }
     ensures { Finished w s b buf.old buf.new text.old text.new result }
 {
     let len = s.len;
     if !is_escaped(s.stage, s.which, &buf[..len]) {
-        return Offer::Not;
+        return None;
     }
     let f = first(b);
     if f < IDLE {
-        return Offer::Not;
+        return None;
     }
     let depth = w.depth as u32;
     let r = decoded_record(s, depth, &buf[..len], text);
     let next = after(s, b, f, buf);
-    Offer::Given(next, w.depth, r)
+    Some(QuickItem {
+        spot: next,
+        depth: w.depth,
+        item: r,
+    })
 }
 
 // Gives the item that ends before a byte, where it is told here.
-pub fn give_item(w: Words, s: PieceSpot, b: u8, buf: &mut [u8], text: &mut [u8]) -> Offer
+pub fn give_item(
+    w: Words,
+    s: PieceSpot,
+    b: u8,
+    buf: &mut [u8],
+    text: &mut [u8],
+) -> Option<QuickItem>
     requires { Held w s buf.old text.old }
     ensures { Finished w s b buf.old buf.new text.old text.new result }
 {
     match finish(w, s, b, buf, text) {
-        Offer::Given(next, depth, record) => Offer::Given(next, depth, record),
-        Offer::Not => finish_decoded(w, s, b, buf, text),
+        Some(told) => Some(told),
+        None => finish_decoded(w, s, b, buf, text),
     }
 }
 
 // Gives the comment that ends before a byte.
-pub fn give_comment(w: Words, s: PieceSpot, b: u8, buf: &mut [u8], text: &[u8]) -> Offer
+pub fn give_comment(w: Words, s: PieceSpot, b: u8, buf: &mut [u8], text: &[u8]) -> Option<QuickItem>
     requires { Held w s buf.old text.now × (s.stage ≡ 31) × (s.which ≡ kind.Comment) × (s.detail ≡ 0) }
     ensures { Finished w s b buf.old buf.new text.now text.now result }
 {
     let f = first(b);
     if f < IDLE {
-        return Offer::Not;
+        return None;
     }
     if w.skip == YES {
-        return Offer::Not;
+        return None;
     }
     let depth = w.depth as u32;
     let m = Means {
@@ -260,5 +279,9 @@ pub fn give_comment(w: Words, s: PieceSpot, b: u8, buf: &mut [u8], text: &[u8]) 
     };
     let r = record_of(m, s, NO_TEXT, 0, depth);
     let next = after(s, b, f, buf);
-    Offer::Given(next, w.depth, r)
+    Some(QuickItem {
+        spot: next,
+        depth: w.depth,
+        item: r,
+    })
 }

@@ -24,26 +24,19 @@ use ready::is_ready;
 pub mod finishing;
 pub mod ready;
 
-// The record of an item, or nothing where it is not made here.
+// An item that is told here: its record, the spot past the byte before which it ended and the brackets open there.
 #[derive(Clone, Copy)]
-pub enum Gift {
-    Of(Record),
-    Not,
+pub struct QuickItem {
+    pub spot: PieceSpot,
+    pub depth: u64,
+    pub item: Record,
 }
 
-// An item's record, the spot past the byte before which it ended and the brackets open there; or nothing where it is not told here.
-#[derive(Clone, Copy)]
-pub enum Offer {
-    Given(PieceSpot, u64, Record),
-    Not,
-}
-
-// Where the moves lead: to the end of the piece; past an item, with the brackets open there and the item's record; or to a spot before a
-// byte from which the crate `pieces_lent` has to go on.
+// Where the moves lead: to the end of the piece; past an item; or to a spot before a byte from which the crate `pieces_lent` has to go on.
 #[derive(Clone, Copy)]
 pub enum Reached {
     More(PieceSpot),
-    Item(PieceSpot, u64, Record),
+    Item(QuickItem),
     Before(PieceSpot),
 }
 
@@ -78,8 +71,8 @@ fn from_spot(w: Words, s: PieceSpot, buf: &mut [u8], piece: &[u8], text: &mut [u
         return Reached::More(s);
     }
     match give_item(w, s, piece[i], buf, text) {
-        Offer::Given(next, depth, record) => Reached::Item(next, depth, record),
-        Offer::Not => Reached::Before(s),
+        Some(told) => Reached::Item(told),
+        None => Reached::Before(s),
     }
 }
 
@@ -102,8 +95,8 @@ fn from_comment(w: Words, s: PieceSpot, buf: &mut [u8], piece: &[u8], text: &[u8
 {
     let i = s.i;
     match give_comment(w, s, piece[i], buf, text) {
-        Offer::Given(next, depth, record) => Reached::Item(next, depth, record),
-        Offer::Not => Reached::Before(s),
+        Some(told) => Reached::Item(told),
+        None => Reached::Before(s),
     }
 }
 
@@ -158,12 +151,9 @@ pub fn plainly(
     ensures { Continues words from piece.now buf.old buf.new text.old text.new result }
 {
     let told = called(words, known, buf, &piece[from..], text);
-    let after = told.words;
-    let got = told.got;
     Told {
-        words: after,
         taken: told.taken + from,
-        got,
+        ..told
     }
 }
 
@@ -171,11 +161,5 @@ pub fn plainly(
 pub fn is_served(w: Words, bytes: usize, room: usize, left: usize) -> bool
     ensures { result ≡ true → (bytes ≡ longest) × (longest ≤ room) × Ready w left }
 {
-    if bytes != LONGEST {
-        return false;
-    }
-    if room < LONGEST {
-        return false;
-    }
-    is_ready(w, left)
+    bytes == LONGEST && LONGEST <= room && is_ready(w, left)
 }

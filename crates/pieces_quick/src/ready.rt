@@ -23,29 +23,19 @@ const QUOTES_LENGTH: u64 = 2;
 fn is_token(which: u64, detail: u64) -> bool
     ensures { result ≡ true → (which < 2 ^ 32) × (detail < 2 ^ 32) }
 {
-    if KINDS <= which {
-        return false;
-    }
-    detail <= LAST_VALUE
+    which < KINDS && detail <= LAST_VALUE
 }
 
 // Whether a stage is one of those that need neither of the words that others use.
+#[tactic(auto, using(crate::proofs::Knows::word_plain, crate::proofs::Knows::run_plain, crate::proofs::Knows::sign_plain, crate::proofs::Knows::hash_plain, crate::proofs::Knows::line_plain))]
 fn is_plain(stage: u64) -> bool
     ensures { result ≡ true → Plain stage }
 {
-    if stage == IN_WORD {
-        return true;
-    }
-    if stage == IN_RUN {
-        return true;
-    }
-    if stage == AFTER_HASH {
-        return true;
-    }
-    if stage == IN_HASH {
-        return true;
-    }
-    stage == IN_LINE
+    stage == IN_WORD
+        || stage == IN_RUN
+        || stage == AFTER_HASH
+        || stage == IN_HASH
+        || stage == IN_LINE
 }
 
 // Whether the words of a stage of an item with so many bytes held are ones known here.
@@ -88,66 +78,28 @@ pub fn is_quiet(
 ) -> bool
     ensures { result ≡ true → Quiet ended one two count need low high code }
 {
-    if ended != 0 {
-        return false;
-    }
-    if one != 0 {
-        return false;
-    }
-    if two != 0 {
-        return false;
-    }
-    if count != 0 {
-        return false;
-    }
-    if need != 0 {
-        return false;
-    }
-    if low != 0 {
-        return false;
-    }
-    if high != 0 {
-        return false;
-    }
-    if code != 0 {
-        return false;
-    }
-    true
+    ended == 0
+        && one == 0
+        && two == 0
+        && count == 0
+        && need == 0
+        && low == 0
+        && high == 0
+        && code == 0
 }
 
 // Whether places are within the longest text, with so many bytes of it to come.
 pub fn is_within(from: u64, to: u64, at: u64, left: usize) -> bool
     ensures { result ≡ true → (from ≤ limit) × (to ≤ limit) × (at + left ≤ limit) }
 {
-    if LAST_VALUE < from {
-        return false;
-    }
-    if LAST_VALUE < to {
-        return false;
-    }
-    if LAST_VALUE < at {
-        return false;
-    }
-    left as u64 <= LAST_VALUE - at
+    from <= LAST_VALUE && to <= LAST_VALUE && at <= LAST_VALUE && left as u64 <= LAST_VALUE - at
 }
 
 // Whether no item is held, at a place behind as many brackets.
 pub fn is_unheld(w: Words) -> bool
     ensures { result ≡ true → Unheld w }
 {
-    if w.start != 0 {
-        return false;
-    }
-    if w.which != 0 {
-        return false;
-    }
-    if w.detail != 0 {
-        return false;
-    }
-    if w.len != 0 {
-        return false;
-    }
-    w.depth <= w.at
+    w.start == 0 && w.which == 0 && w.detail == 0 && w.len == 0 && w.depth <= w.at
 }
 
 // Whether a state in an item is known here: its bytes lead from its start to the place, and as many brackets fit before it.

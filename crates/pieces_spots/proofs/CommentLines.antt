@@ -4,14 +4,13 @@ use native.Mathlib.Omega.{arith}
 use mathlib.Core.Path.{◌≡◌, refl, sym, ap, ◌∙◌, subst}
 use mathlib.Core.List.{List}
 use lib.Dec.{eqb}
-use lib.ListN.{length, get_or, take, drop, set, length-take, length-drop, take-append-drop}
+use lib.ListN.{length, get_or, take, drop, set, take-append-drop}
 use lib.Seq.{take-take}
 use borrow.Author.Tests.{eqb-true, eqb-false}
 use Rattle.laws.proofs.Choice.{by_bool}
 use Rattle.laws.specs.Quoted.{code}
 use Rattle.laws.specs.Texts.{span}
 use Rattle.laws.proofs.Runs.{span_le}
-use Rattle.items.specs.Kinds as kind
 use Rattle.pieces.specs.Expected.{longest}
 use Rattle.pieces.specs.Calls.{laid_at}
 use Rattle.pieces_spots.specs.declared.PieceSpot.{PieceSpot}

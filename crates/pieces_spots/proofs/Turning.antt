@@ -1,4 +1,5 @@
 -- One byte of ASCII in a state between two characters: it begins an item, is eaten by one, or ends one, which is then given.
+use Rattle.std.proofs.Common.{Some}
 use Prim.Native.Nat.{ℕ, ◌+◌, ◌≤◌, ◌<◌}
 use mathlib.Core.Path.{◌≡◌, refl, sym, ap, ◌∙◌}
 use mathlib.Core.Bool.{false, ◌&&◌}
@@ -22,7 +23,6 @@ use Rattle.items.specs.Machine.{step_of, on_first}
 use Rattle.items.specs.Whole.{limit}
 use Rattle.meaning.specs.Meant.{sized_all}
 use Rattle.meaning.specs.declared.Means.{Means}
-use Rattle.pieces.specs.declared.Beyond.TheVariants.{Char}
 use Rattle.pieces.specs.declared.Stage.{Stage}
 use Rattle.pieces.specs.declared.Stage.TheVariants.{Idle, Busy}
 use Rattle.pieces.specs.declared.State.{State}
@@ -82,14 +82,14 @@ module _ (s : State) (b : Between s) (st : ℕ) (p : Phase) (o : Outcome) (here 
     (quiet : (last : Place) → range_after (report s) last st o (item_so_far s) ≡ last)
     (m : Means) (means : m ∷ [] ≡ sized_all (meaning_of (report s) o st s.marks.at (item_so_far s).bytes))
     (kept : (s.marks.skip && eqb m.kind kind.Comment) ≡ false) where
-  ended_so : ends s st o (Char c)
+  ended_so : ends s st o (Some c)
       ≡ off (begin (deeper m.kind s) (last_of s) c)
       (item (given_by s.marks.depth (report s) m (standing (report s) (last_of s)) st s.marks.at (item_so_far s).bytes))
   ended_so =
-      sym (ends_one s st o (Char c) s.marks.at refl m means)
+      sym (ends_one s st o (Some c) s.marks.at refl m means)
       ∙ rw (quiet (standing (report s) (last_of s)), quiet (last_of s), kept)
 
-  stop_so : on_stage s (Busy st p) c ≡ ends s st o (Char c)
+  stop_so : on_stage s (Busy st p) c ≡ ends s st o (Some c)
   stop_so = rw stops
 
   pub fed_ended : (rest : List ℕ) (n : ℕ) → feed_of s (c ∷ rest) n

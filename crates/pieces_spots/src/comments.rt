@@ -10,7 +10,6 @@ ghost use Rattle.pieces_spots.specs.Spots.{Fits, Onward};
 
 use crate::PieceSpot;
 use crate::lines::{line_block, line_rest};
-use crate::moving::fewer;
 use byte_runs::BLOCK;
 use items::kinds;
 use pieces::LONGEST;
@@ -62,10 +61,7 @@ fn has_newline(piece: &[u8], at: usize, end: usize) -> bool
     requires { (at ≤ length piece.now) × (end ≤ length piece.now) }
     ensures { result ≡ true → (at + 1 < end) × (get_or piece.now at 0 ≡ code "\n") }
 {
-    if end <= at + 1 {
-        return false;
-    }
-    piece[at] == b'\n'
+    at + 1 < end && piece[at] == b'\n'
 }
 
 // Past n bytes of a comment that are held, and the newline that ends it.
@@ -77,12 +73,12 @@ fn end_line(s: PieceSpot, n: usize, buf: &mut [u8]) -> PieceSpot
     buf[len] = b'\n';
     PieceSpot {
         stage: DONE_TOKEN,
-        start: s.start,
         which: kinds::COMMENT as u64,
         detail: 0,
         at: s.at + n as u64 + 1,
         len: len + 1,
         i: s.i + n + 1,
+        ..s
     }
 }
 
@@ -94,18 +90,16 @@ pub fn past_line(s: PieceSpot, buf: &mut [u8], piece: &[u8]) -> PieceSpot
 {
     let i = s.i;
     let len = s.len;
-    let end = i + fewer(piece.len() - i, LONGEST - len);
+    let end = i + (piece.len() - i).min(LONGEST - len);
     let n = copy_line(&piece[i..end], &mut buf[len..]);
     if has_newline(piece, i + n, end) {
         return end_line(s, n, buf);
     }
     PieceSpot {
         stage: IN_LINE,
-        start: s.start,
-        which: s.which,
-        detail: s.detail,
         at: s.at + n as u64,
         len: len + n,
         i: i + n,
+        ..s
     }
 }

@@ -58,17 +58,12 @@ pub fn tell_boolean(at: usize, end: usize, raw: &[u8]) -> Quick
 }
 
 // Whether bytes stand between two vertical lines.
+#[tactic(auto, unfolding(items::specs::Readers::lined_of))]
 fn is_lined(raw: &[u8]) -> bool
     ensures { result ≡ true → (0 < length raw.now) × (lined_of raw.now ≡ Lined) }
 {
     let n = raw.len();
-    if n <= QUOTE_LENGTH {
-        return false;
-    }
-    if raw[0] != b'|' {
-        return false;
-    }
-    raw[n - 1] == b'|'
+    QUOTE_LENGTH < n && raw[0] == b'|' && raw[n - 1] == b'|'
 }
 
 // What the bytes of an identifier in vertical lines tell: its text lies in the source where it has no escape.

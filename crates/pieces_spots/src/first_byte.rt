@@ -93,11 +93,8 @@ pub fn first(b: u8) -> u64
 pub fn begun_by(b: u8) -> u64
     ensures { Firsts b result }
 {
-    if b < b'a' {
-        return first(b);
+    match b {
+        b'a'..=b'z' => IN_WORD,
+        _ => first(b),
     }
-    if b'z' < b {
-        return first(b);
-    }
-    IN_WORD
 }

@@ -16,16 +16,6 @@ use pieces_lent::codes::{
 };
 use steps::ascii_run;
 
-// The lesser of two numbers.
-pub(crate) fn fewer(a: usize, b: usize) -> usize
-    ensures { (result ≤ a) × (result ≤ b) }
-{
-    if a < b {
-        return a;
-    }
-    b
-}
-
 // Past the blanks of ASCII, between items.
 pub fn past(s: PieceSpot, buf: &[u8], piece: &[u8]) -> PieceSpot
     requires { Fits s buf.now piece.now }
@@ -44,7 +34,7 @@ pub fn past(s: PieceSpot, buf: &[u8], piece: &[u8]) -> PieceSpot
     if b' ' < piece[i] {
         return s;
     }
-    let end = i + fewer(piece.len() - i, LONGEST);
+    let end = i + (piece.len() - i).min(LONGEST);
     let n = blank_end(&piece[i..end], 0);
     PieceSpot {
         stage: IDLE,
@@ -122,7 +112,7 @@ pub fn run(s: PieceSpot, buf: &mut [u8], piece: &[u8]) -> PieceSpot
 {
     let i = s.i;
     let len = s.len;
-    let end = i + fewer(piece.len() - i, LONGEST - len);
+    let end = i + (piece.len() - i).min(LONGEST - len);
     let n = kept_count(s.stage, s.which, &piece[i..end]);
     if n == 0 {
         return s;
@@ -130,13 +120,10 @@ pub fn run(s: PieceSpot, buf: &mut [u8], piece: &[u8]) -> PieceSpot
     let to = i + n;
     copy_all(&piece[i..to], &mut buf[len..]);
     PieceSpot {
-        stage: s.stage,
-        start: s.start,
-        which: s.which,
-        detail: s.detail,
         at: s.at + n as u64,
         len: len + n,
         i: to,
+        ..s
     }
 }
 
@@ -215,11 +202,11 @@ pub fn close(s: PieceSpot, buf: &mut [u8], piece: &[u8]) -> PieceSpot
     buf[len] = b;
     PieceSpot {
         stage: f % KIND,
-        start: s.start,
         which: f / KIND % KINDS,
         detail: f / DETAIL,
         at: s.at + 1,
         len: len + 1,
         i: i + 1,
+        ..s
     }
 }

@@ -24,16 +24,7 @@ const TWO_BYTES: usize = 2;
 fn is_letter(x: u8, y: u8) -> bool
     ensures { result ≡ true → Letter x y }
 {
-    if x < LEADS {
-        return false;
-    }
-    if LEADS_END <= x {
-        return false;
-    }
-    if y < SECONDS {
-        return false;
-    }
-    y < SECONDS_END
+    LEADS <= x && x < LEADS_END && SECONDS <= y && y < SECONDS_END
 }
 
 // Whether an item at a stage goes on with any such letter: a word, a comment to the end of its line, and quotes do.
@@ -131,13 +122,10 @@ fn pass_pair(s: PieceSpot, buf: &mut [u8], piece: &[u8]) -> PieceSpot
     buf[len] = piece[i];
     buf[len + 1] = piece[i + 1];
     PieceSpot {
-        stage: s.stage,
-        start: s.start,
-        which: s.which,
-        detail: s.detail,
         at: s.at + 2,
         len: len + TWO_BYTES,
         i: i + TWO_BYTES,
+        ..s
     }
 }
 

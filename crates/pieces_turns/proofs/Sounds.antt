@@ -1,5 +1,6 @@
 -- What a state that reads on gives to the inner functions that ask for something, and that a byte that gives nothing leaves such a state.
-use Prim.Native.Nat.{ℕ, zero, suc, ◌+◌, ◌-◌, ◌*◌, ◌^◌, ◌%◌, ◌≤◌, ◌<◌}
+use Rattle.std.proofs.Common.{Some}
+use Prim.Native.Nat.{ℕ, zero, suc, ◌+◌, ◌*◌, ◌^◌, ◌%◌, ◌≤◌, ◌<◌}
 use mathlib.Core.Path.{◌≡◌, refl, sym, ◌∙◌, subst}
 use mathlib.Core.Bool.{Bool, true, ◌&&◌}
 use mathlib.Core.List.{List}
@@ -34,7 +35,6 @@ use Rattle.items.specs.Meaning.{Meaning, meaning_of}
 use Rattle.items.specs.Items.{Place, range_after, standing, items_of, extent_items}
 use Rattle.items.specs.Machine.{step_of, finish_of, on_first}
 use Rattle.items.specs.Whole.{limit}
-use Rattle.pieces.specs.declared.Beyond.TheVariants.{Char}
 use Rattle.pieces.specs.declared.Stage.{Stage}
 use Rattle.pieces.specs.declared.Stage.TheVariants.{Opening, Pound, FirstLine, Idle, Busy, Waiting, Stopped}
 use Rattle.pieces.specs.declared.Marks.{Marks}
@@ -49,7 +49,6 @@ use Rattle.pieces.proofs.Parts.{Wants, Wanted, wants_on}
 use Rattle.pieces.proofs.Phases.{Ranges, Goes, goes_on, first_sized, finish_ranges}
 use Rattle.pieces.proofs.Kept.{Within, range_within, bytes_fit, phase_bounded}
 use Rattle.pieces.proofs.Pairs.{Shape, alone, pair, shape}
-use Rattle.pieces_bounds.proofs.Bounded.{numbers}
 use Rattle.pieces_turns.proofs.Told.{told_phase, Stood, Sane, sane, sane_bounded}
 
 -- ---- what the inner functions ask
@@ -218,7 +217,7 @@ module _ (s : State) (full : length s.buf ≡ longest) (k : Sane s) where
 
     -- the items of an extent: where nothing is given, a comment is skipped
     sane_gives : (st : ℕ) (last set : Place) → Within last → (r : Bool) (ms : List Meaning) → Shape st s.marks.at (take s.marks.len s.buf) ms
-        → OnSane (gives s st last (Char c) (items_of r set st s.marks.at ms))
+        → OnSane (gives s st last (Some c) (items_of r set st s.marks.at ms))
     sane_gives st last set w r ms (alone m) = if_all OnSane (s.marks.skip && eqb m.kind kind.Comment) (sane_begin last w) tt
     sane_gives st last set w r ms (pair two) = tt
 

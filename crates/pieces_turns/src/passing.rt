@@ -14,16 +14,6 @@ use pieces_giving::marks::marks_at;
 use refusal::LIMIT;
 use steps::ascii_run;
 
-// The lesser of two numbers.
-fn fewer(a: usize, b: usize) -> usize
-    ensures { (result ≤ a) × (result ≤ b) }
-{
-    if a < b {
-        return a;
-    }
-    b
-}
-
 // How many of these bytes, from the first on, leave the reader at a stage without an item: in a first line those of ASCII before its
 // newline, between items the blanks.
 fn between_count(stage: Stage, bytes: &[u8]) -> usize
@@ -51,7 +41,7 @@ fn room(m: Marks, left: usize) -> usize
     requires { (m.len ≤ longest) × (m.at ≤ limit) }
     ensures { (result ≤ left) × (m.len + result ≤ longest) × (m.at + result ≤ limit) }
 {
-    fewer(left, fewer(LONGEST - m.len, LIMIT - m.at))
+    left.min(LONGEST - m.len).min(LIMIT - m.at)
 }
 
 // How many bytes of the piece, from a place on, may be passed at once: none within a character. It looks at no more bytes than an item

@@ -10,7 +10,7 @@ ghost use Rattle.pieces_turns.specs.Inner.{Sound};
 use chars::{Step, byte_step, char_width};
 use items::modes::REPORT;
 use items::{Next, Phase};
-use pieces::{Beyond, Got, LONGEST, Marks, Part, Stage, Turned};
+use pieces::{Got, LONGEST, Marks, Part, Stage, Turned};
 use pieces_giving::ends::{begin, ends, go_on};
 use pieces_giving::lay::lay;
 use pieces_giving::marks::{marks_at, with_part};
@@ -58,7 +58,7 @@ fn on_item(m: Marks, buf: &mut [u8], text: &mut [u8], start: usize, phase: Phase
     let len = m.len;
     match step(m.mode == REPORT, phase, &buf[..len], m.at, c) {
         Next::Eat(then) => eat(m, buf, start, c, then),
-        Next::Stop(what) => ends(m, buf, text, start, what, Beyond::Char(c)),
+        Next::Stop(what) => ends(m, buf, text, start, what, Some(c)),
     }
 }
 

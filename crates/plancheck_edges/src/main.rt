@@ -5,7 +5,6 @@
 ghost use Rattle.std.specs.Prelude.{◌≤◌, ◌<◌, IfOk};
 ghost use Rattle.std.specs.Io.{ReadsAtMost};
 
-use findings::FindAnswer;
 use findings::codes::FINDING_WORDS;
 use findings_render::FULL;
 use std::env::FillError;
@@ -62,10 +61,8 @@ fn print_findings(
 ) -> io::Result<()>
     requires { told ≤ 100 }
 {
-    let mut i = 0;
-    while i < told {
+    for i in 0..told {
         print_finding(rt, nth(findings, i), source, name)?;
-        i += 1;
     }
     Ok(())
 }
@@ -98,16 +95,16 @@ fn check(rt: &impl Print, source: &[u8], name: &[u8]) -> io::Result<u32>
     let mut rows = [0u32; 16384];
     let mut findings = [0u32; 700];
     match findings::find(source, &mut rows, &mut findings) {
-        FindAnswer::Found(found, errors) => {
-            let told = told_of(found);
+        Ok(counted) => {
+            let told = told_of(counted.findings);
             print_findings(rt, &findings, told, source, name)?;
-            print_summary(rt, name, found, errors, told)?;
-            if found == 0 {
+            print_summary(rt, name, counted.findings, counted.errors, told)?;
+            if counted.findings == 0 {
                 return Ok(NOTHING_FOUND);
             }
             Ok(FOUND)
         }
-        FindAnswer::TooFew(_) => Ok(FAILED),
+        Err(_) => Ok(FAILED),
     }
 }
 
@@ -181,10 +178,8 @@ fn greater(x: u32, y: u32) -> u32
 fn main(rt: HostRuntime) -> io::Result<()> {
     let count = arg_count(&rt);
     let mut status: u32 = NOTHING_FOUND;
-    let mut i = 1;
-    while i < count {
+    for i in 1..count {
         status = greater(status, check_argument(&rt, i)?);
-        i += 1;
     }
     println!(rt; "status {status}")
 }

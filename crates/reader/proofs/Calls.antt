@@ -1,4 +1,5 @@
 -- Call after call a reader gives the items of the definition, whatever text memory each call is lent.
+use Rattle.std.proofs.Common.{None, Option, Some}
 use mathlib.Core.Path.{◌≡◌, refl, sym, ap, ◌∙◌, subst}
 use Prim.Native.Nat.{ℕ, zero, suc, ◌≤◌, ◌<◌}
 use mathlib.Core.Bool.{Bool, true, false}
@@ -12,8 +13,6 @@ use Rattle.refusal.specs.Refusals as refusal
 use Rattle.laws.specs.Lent.{written}
 use Rattle.laws.proofs.Choice.{by_bool, impossible}
 use Rattle.chars.specs.Utf8.{chars, sequences, first_bad}
-use Rattle.chars.specs.declared.Utf8.{Utf8}
-use Rattle.chars.specs.declared.Utf8.TheVariants.{Good, Bad}
 use Rattle.items.specs.Items.{Item, depth_after, memory_of, record_of}
 use Rattle.items.specs.Whole.{limit, is_mode, in_report, items_in}
 use Rattle.lexer.specs.Answers.{Replied, position_at, give_of, next_of}
@@ -134,14 +133,14 @@ opened_has s mode skip p e = by_bool (is_mode mode)
     (λ l. good l (first_bad s) (rw (m, l) at e)))
     (λ m. let z : refused refusal.no_such_mode mode ≡ opened p = rw m at e in impossible cc)
   where
-    good : ltb limit (length s) ≡ false → (u : Utf8) → if_utf8 u (opening s (in_report mode) skip) ≡ opened p → Fresh s mode skip p
-    good l Good h =
+    good : ltb limit (length s) ≡ false → (u : Option ℕ) → if_utf8 u (opening s (in_report mode) skip) ≡ opened p → Fresh s mode skip p
+    good l None h =
         let q : p ≡ opening s (in_report mode) skip = cc in record {
           short = ltb-false limit (length s) l;
           outside = ap (λ (x : Position). x.depth) q;
           whole = ap (λ (x : Position). all_items s x.spot) q ∙ reads_all s (in_report mode) skip;
         }
-    good l (Bad at) h = impossible cc
+    good l (Some at) h = impossible cc
 
 nothing_there : all_items [] nowhere.spot ≡ []
 unfolding all_items all_from next_at next_from turn turn_from chars sequences

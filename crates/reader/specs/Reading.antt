@@ -1,18 +1,19 @@
 -- What the reader's two calls answer, and what they leave: the reader that is open or refused, and after each call the reader that moved on
 -- or stayed. Both by the definitions of `lexer`: `open_of` and `next_of`.
-use Rattle.std.specs.Prelude.{ℕ, Bool, false, List, []}
+use Rattle.std.specs.Prelude.{ℕ, Bool, false, List, [], None, Option, Some, Result, Ok, Err}
 use Rattle.std.specs.Borrow.{Bor}
 use Rattle.refusal.specs.Refusals as refusal
 use Rattle.items.specs.Items.{unset, words_of}
 use Rattle.items.specs.Whole.{limit}
+use Rattle.items.specs.declared.Record.{Record}
 use Rattle.meaning.specs.Places.{range_of}
 use Rattle.lexer.specs.Answers.{Reply, Replied, item, finished, refuses, next_of}
 use Rattle.lexer.specs.Opening.{Opening, opened, refused, open_of}
 use Rattle.lexer.specs.declared.Position.{Position}
-use Rattle.reader.specs.declared.ReaderAnswer.{ReaderAnswer}
-use Rattle.reader.specs.declared.ReaderAnswer.TheVariants as given
-use Rattle.reader.specs.declared.Standing.{Standing}
-use Rattle.reader.specs.declared.Standing.TheVariants as standing
+use Rattle.lexer.specs.declared.NextError.{NextError}
+use Rattle.lexer.specs.declared.NextError.TheVariants as next
+use Rattle.lexer.specs.declared.OpenError.{OpenError}
+use Rattle.lexer.specs.declared.OpenError.TheVariants as opens
 use Rattle.reader.specs.declared.Reader.{Reader}
 
 -- ---- one item
@@ -24,11 +25,11 @@ pub data What : Type 0 where
   stops : ℕ → ℕ → ℕ → What
 
 -- what each answer means
-abbrev pub given_of : ReaderAnswer → What
-given_of (given.Item r) = gives (words_of r)
-given_of given.Finished = ends
-given_of given.TooLong = stops refusal.over_long limit 0
-given_of (given.NoRoom text) = stops refusal.too_few 1 text
+abbrev pub given_of : Result (Option Record) NextError → What
+given_of (Ok (Some r)) = gives (words_of r)
+given_of (Ok None) = ends
+given_of (Err next.TooLong) = stops refusal.over_long limit 0
+given_of (Err (next.NoRoom text)) = stops refusal.too_few 1 text
 
 -- an answer, where reading then stands, and what the text memory then holds
 pub record Stepped : Type 0 where
@@ -79,11 +80,11 @@ pub data Stand : Type 0 where
   refuses_with : ℕ → ℕ → Stand
 
 -- what each answer means
-abbrev pub standing_of : Standing → Stand
-standing_of standing.Open = stands
-standing_of (standing.NoMode mode) = refuses_with refusal.no_such_mode mode
-standing_of standing.TooLong = refuses_with refusal.over_long limit
-standing_of (standing.NotUtf8 at) = refuses_with refusal.not_utf8 at
+abbrev pub standing_of : Result Unit OpenError → Stand
+standing_of (Ok t) = stands
+standing_of (Err (opens.NoMode mode)) = refuses_with refusal.no_such_mode mode
+standing_of (Err opens.TooLong) = refuses_with refusal.over_long limit
+standing_of (Err (opens.NotUtf8 at)) = refuses_with refusal.not_utf8 at
 
 -- whether a reader is open, and where it starts
 pub record Started : Type 0 where

@@ -14,13 +14,17 @@ flag b = if b then 1 else 0
 abbrev pub listed : Position → List ℕ
 listed p = p.spot.at ∷ p.spot.last.from ∷ p.spot.last.to ∷ flag p.spot.second ∷ flag p.spot.report ∷ flag p.spot.skip ∷ p.depth ∷ []
 
+-- three numbers that are at most a fourth
+abbrev pub are_at_most : ℕ → ℕ → ℕ → ℕ → Bool
+are_at_most most a b c = leb a most && (leb b most && leb c most)
+
 -- numbers of at most 32 bits
 abbrev pub are_narrow : ℕ → ℕ → ℕ → Bool
-are_narrow a b c = leb a limit && (leb b limit && leb c limit)
+are_narrow = are_at_most limit
 
 -- words that are yes or no
 abbrev pub are_flags : ℕ → ℕ → ℕ → Bool
-are_flags a b c = leb a 1 && (leb b 1 && leb c 1)
+are_flags = are_at_most 1
 
 -- whether some words are those of a position
 unfoldable pub is_position : List ℕ → Bool

@@ -12,7 +12,7 @@ ghost use Rattle.reader_exports.specs.Reader.{started, opens, open_left, memory,
 
 use exports_values::{VALUES, put_values};
 use items::RECORD_WORDS;
-use lexer::{NextAnswer, OpenAnswer, next_at};
+use lexer::{Given, NextError, OpenError, Position, next_at};
 use meaning::records::put;
 
 mod position;
@@ -29,32 +29,29 @@ const ONE_RECORD: u64 = 1;
 fn is_room(item: usize, values: usize) -> bool
     ensures { result ≡ is_room item values }
 {
-    if item < RECORD_WORDS {
-        return false;
-    }
-    VALUES <= values
+    RECORD_WORDS <= item && VALUES <= values
 }
 
 // Passes on what opening answered: the position's words and the two values; answers its number.
-fn tell_open(answer: OpenAnswer, words: &mut [u64], values: &mut [u64]) -> u32
+fn tell_open(answer: Result<Position, OpenError>, words: &mut [u64], values: &mut [u64]) -> u32
     requires { length words.old ≡ reader_words }
     ensures { started result words.new values.new ≡ opens (opening_of answer) words.old values.old }
 {
     match answer {
-        OpenAnswer::Opened(position) => {
+        Ok(position) => {
             put_position(words, position);
             put_values(values, 0, 0);
             SERVED
         }
-        OpenAnswer::NoMode(mode) => {
+        Err(OpenError::NoMode(mode)) => {
             put_values(values, mode as u64, 0);
             NO_MODE
         }
-        OpenAnswer::TooLong => {
+        Err(OpenError::TooLong) => {
             put_values(values, LIMIT_VALUE, 0);
             TOO_LONG
         }
-        OpenAnswer::NotUtf8(at) => {
+        Err(OpenError::NotUtf8(at)) => {
             put_values(values, at as u64, 0);
             NOT_UTF8
         }
@@ -62,27 +59,32 @@ fn tell_open(answer: OpenAnswer, words: &mut [u64], values: &mut [u64]) -> u32
 }
 
 // Passes on what the reader answered: the position's words, an item's record, the two values; answers its number.
-fn tell_next(answer: NextAnswer, words: &mut [u64], item: &mut [u32], values: &mut [u64]) -> u32
+fn tell_next(
+    answer: Result<Option<Given>, NextError>,
+    words: &mut [u64],
+    item: &mut [u32],
+    values: &mut [u64],
+) -> u32
     requires { (length words.old ≡ reader_words) × (record_words ≤ length item.old) }
     ensures { (old text : List ℕ) → left result (memory words.new text item.new values.new)
         ≡ gives (memory words.old old item.old values.old) (reply_of answer) text }
 {
     match answer {
-        NextAnswer::Item(record, after) => {
-            put_position(words, after);
-            put(item, record);
+        Ok(Some(given)) => {
+            put_position(words, given.after);
+            put(item, given.item);
             put_values(values, 0, 0);
             ITEM
         }
-        NextAnswer::Finished => {
+        Ok(None) => {
             put_values(values, 0, 0);
             FINISHED
         }
-        NextAnswer::TooLong => {
+        Err(NextError::TooLong) => {
             put_values(values, LIMIT_VALUE, 0);
             TOO_LONG
         }
-        NextAnswer::NoRoom(bytes) => {
+        Err(NextError::NoRoom(bytes)) => {
             put_values(values, ONE_RECORD, bytes as u64);
             TOO_FEW
         }

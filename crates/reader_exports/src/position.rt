@@ -1,7 +1,7 @@
 // A position as the words that a caller keeps, in the order of docs/STATE.md.
 ghost use Rattle.std.specs.Prelude.{◌≡◌, true, length};
 ghost use Rattle.laws.specs.Lent.{written};
-ghost use Rattle.reader_exports.specs.Words.{reader_words, flag, listed, are_narrow, are_flags, is_position, position_in};
+ghost use Rattle.reader_exports.specs.Words.{reader_words, listed, are_at_most, is_position, position_in};
 
 use lexer::{Position, Spot};
 use meaning::Range;
@@ -27,58 +27,33 @@ const DEPTH_WORD: usize = 6;
 // The greatest number of 32 bits.
 const GREATEST_U32: u64 = 0xFFFF_FFFF;
 
-// The answers to a question.
+// The word of a yes.
 const YES: u64 = 1;
 
-const NO: u64 = 0;
-
-// Yes or no as a word.
-fn flag_of(b: bool) -> u64
-    ensures { result ≡ flag b }
+// Whether three numbers are at most a fourth.
+fn are_at_most(most: u64, a: u64, b: u64, c: u64) -> bool
+    ensures { result ≡ are_at_most most a b c }
 {
-    if b {
-        return YES;
-    }
-    NO
-}
-
-// Whether three numbers have at most 32 bits.
-fn are_narrow(a: u64, b: u64, c: u64) -> bool
-    ensures { result ≡ are_narrow a b c }
-{
-    if GREATEST_U32 < a {
-        return false;
-    }
-    if GREATEST_U32 < b {
-        return false;
-    }
-    c <= GREATEST_U32
-}
-
-// Whether three words are yes or no.
-fn are_flags(a: u64, b: u64, c: u64) -> bool
-    ensures { result ≡ are_flags a b c }
-{
-    if YES < a {
-        return false;
-    }
-    if YES < b {
-        return false;
-    }
-    c <= YES
+    a <= most && b <= most && c <= most
 }
 
 // Whether some words are those of a position.
 pub fn is_position(words: &[u64]) -> bool
     ensures { result ≡ is_position words.now }
 {
-    if words.len() != READER_WORDS {
-        return false;
-    }
-    if !are_narrow(words[FROM_WORD], words[TO_WORD], words[DEPTH_WORD]) {
-        return false;
-    }
-    are_flags(words[SECOND_WORD], words[REPORT_WORD], words[SKIP_WORD])
+    words.len() == READER_WORDS
+        && are_at_most(
+            GREATEST_U32,
+            words[FROM_WORD],
+            words[TO_WORD],
+            words[DEPTH_WORD],
+        )
+        && are_at_most(
+            YES,
+            words[SECOND_WORD],
+            words[REPORT_WORD],
+            words[SKIP_WORD],
+        )
 }
 
 // The position that they are.
@@ -106,9 +81,9 @@ pub fn put_position(words: &mut [u64], p: Position)
     requires { length words.old ≡ reader_words }
     ensures { words.new ≡ written (listed p) words.old }
 {
-    let second = flag_of(p.spot.second);
-    let report = flag_of(p.spot.report);
-    let skip = flag_of(p.spot.skip);
+    let second = u64::from(p.spot.second);
+    let report = u64::from(p.spot.report);
+    let skip = u64::from(p.spot.skip);
     words[AT_WORD] = p.spot.at as u64;
     words[FROM_WORD] = p.spot.last.from as u64;
     words[TO_WORD] = p.spot.last.to as u64;

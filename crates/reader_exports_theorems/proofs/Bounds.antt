@@ -1,4 +1,5 @@
 -- The error range of a position that the calls made lies in the source, so that its words are in their bounds: no such position is 27.
+use Rattle.std.proofs.Common.{None, Option, Some}
 use Rattle.chars.specs.Utf8.{chars}
 use Rattle.items.specs.Kinds as kind
 use Rattle.items.specs.Readers.{Read, read_item}
@@ -12,7 +13,6 @@ use Rattle.meaning.specs.Places.{place_in}
 use Rattle.lexer.specs.Reading.{Turn, gives, ends, turn_of, turn, start_from, next_from, next_at, size_of}
 use Rattle.lexer.specs.declared.Spot.{Spot}
 use Rattle.lexer.specs.declared.FirstChar.{FirstChar}
-use Rattle.lexer.specs.declared.FirstChar.TheVariants.{At, Nothing}
 use Rattle.lexer.specs.declared.Position.{Position}
 use Rattle.lexer.proofs.CharacterAt.{char_inside_lem}
 use Rattle.lexer.proofs.Turns.{Started, started, none_started}
@@ -56,11 +56,11 @@ module _ (s : List ℕ) where
   unfolding turn
   turn_within p q i h e = go (start_from p.at (chars (drop p.at s))) refl
     where
-      go : (x : FirstChar) → start_from p.at (chars (drop p.at s)) ≡ x → Within s q
-      go (At c a n) f =
-          let S : Started s p.at (chars (drop p.at s)) c a n = started s (chars (drop p.at s)) p.at refl c a n f in
-          given_within s p c a n S h i q (sym (S.turn p) ∙ e)
-      go Nothing f =
+      go : (x : Option FirstChar) → start_from p.at (chars (drop p.at s)) ≡ x → Within s q
+      go (Some x) f =
+          let S : Started s p.at (chars (drop p.at s)) x.code x.at x.past = started s (chars (drop p.at s)) p.at refl x.code x.at x.past f in
+          given_within s p x.code x.at x.past S h i q (sym (S.turn p) ∙ e)
+      go None f =
           let z : gives i q ≡ ends = sym e ∙ (none_started (chars (drop p.at s)) p.at f).0 p in
           impossible cc
 

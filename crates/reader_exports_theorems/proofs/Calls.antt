@@ -1,13 +1,12 @@
 -- All calls together: from the words that opening wrote on, call after call gives the records of the whole-text call, but that every decoded text
 -- starts at 0 of the text memory. No position that the calls made is 27, whatever memory they were lent.
+use Rattle.std.proofs.Common.{None, Option}
 use Rattle.refusal.specs.Refusals as refusal
 use Rattle.laws.specs.Lent.{written}
 use Rattle.laws.proofs.Lent.{length-written}
 use Rattle.laws.proofs.Choice.{by_bool, if_yes}
 use Rattle.chars.specs.Encode.{lay}
 use Rattle.chars.specs.Utf8.{first_bad}
-use Rattle.chars.specs.declared.Utf8.{Utf8}
-use Rattle.chars.specs.declared.Utf8.TheVariants.{Good}
 use Rattle.items.specs.Meaning.{Text, none, source, decoded}
 use Rattle.items.specs.Items.{Item, depth_after, record_words, text_words, memory_of, record_of}
 use Rattle.items.specs.Whole.{limit, in_report, items_in}
@@ -183,7 +182,7 @@ module _ (s : List ℕ) (short : length s ≤ limit) where
           ∙ sym (ap (record_each p.depth) (all_ends s n p.spot e))
 
   -- a source that opens, on any words: they hold its start
-  module _ (mode : ℕ) (skip : Bool) (words first : List ℕ) (mode_is : mode < 2) (good : first_bad s ≡ Good) (seven : length words ≡ reader_words) where
+  module _ (mode : ℕ) (skip : Bool) (words first : List ℕ) (mode_is : mode < 2) (good : first_bad s ≡ None) (seven : length words ≡ reader_words) where
     abbrev start : Position
     start = opening s (in_report mode) skip
 
@@ -192,7 +191,7 @@ module _ (s : List ℕ) (short : length s ≤ limit) where
     open_words_lem =
         let all : length words ≤ reader_words = omega (arith, seven) in
         rw (eq-eqb (length words) reader_words seven, lt-ltb mode 2 mode_is, le-ltb limit (length s) short)
-        (ap (λ (u : Utf8). (opens (if_utf8 u start) words first).words) good ∙ rw (drop_of_length-le words all))
+        (ap (λ (u : Option ℕ). (opens (if_utf8 u start) words first).words) good ∙ rw (drop_of_length-le words all))
 
     pub open_held : HoldsPosition start (open_left s mode skip words first).words
     open_held = record { words = open_words_lem; within = (omega arith, omega arith); depth = omega arith }

@@ -1,5 +1,6 @@
 -- Call after call the calls for C give the items of the definition, whatever memory each call is lent: one with 22 leaves the position, and an item
 -- moves it past that item.
+use Rattle.std.proofs.Common.{None, Option, Some}
 use Prim.Native.Nat.{ℕ, zero, suc, ◌≤◌, ◌<◌}
 use mathlib.Core.Path.{◌≡◌, refl, sym, ap, ◌∙◌}
 use mathlib.Core.Bool.{Bool, true, false}
@@ -12,8 +13,6 @@ use Rattle.refusal.specs.Refusals as refusal
 use Rattle.laws.specs.Lent.{written}
 use Rattle.laws.proofs.Choice.{by_bool}
 use Rattle.chars.specs.Utf8.{first_bad}
-use Rattle.chars.specs.declared.Utf8.{Utf8}
-use Rattle.chars.specs.declared.Utf8.TheVariants.{Good, Bad}
 use Rattle.items.specs.Items.{Item, depth_after, memory_of, record_of}
 use Rattle.items.specs.Whole.{limit, is_mode, in_report, items_in}
 use Rattle.lexer.specs.Opening.{opening, if_utf8, open_of}
@@ -134,7 +133,7 @@ record Open (s : List ℕ) (mode : ℕ) (words : List ℕ) : Type 0 where
   seven : length words ≡ reader_words
   mode_is : mode < 2
   short : length s ≤ limit
-  good : first_bad s ≡ Good
+  good : first_bad s ≡ None
 
 opened : (s : List ℕ) (mode : ℕ) (skip : Bool) (words values : List ℕ) → (open_left s mode skip words values).answer ≡ refusal.served → Open s mode words
 unfolding open_left open_of
@@ -146,11 +145,11 @@ opened s mode skip words values e = by_bool (eqb (length words) reader_words)
     (λ m. absurd (let z : ◌≡◌ {A = ℕ} refusal.no_such_mode refusal.served = rw (a, m) at e in omega arith)))
     (λ a. absurd (let z : ◌≡◌ {A = ℕ} refusal.out_of_bounds refusal.served = rw a at e in omega arith))
   where
-    good : eqb (length words) reader_words ≡ true → is_mode mode ≡ true → ltb limit (length s) ≡ false → (u : Utf8) → first_bad s ≡ u
+    good : eqb (length words) reader_words ≡ true → is_mode mode ≡ true → ltb limit (length s) ≡ false → (u : Option ℕ) → first_bad s ≡ u
         → (opens (if_utf8 u (opening s (in_report mode) skip)) words values).answer ≡ refusal.served → Open s mode words
-    good a m l Good g h =
+    good a m l None g h =
         record { seven = eqb-true (length words) reader_words a; mode_is = ltb-true mode 2 m; short = ltb-false limit (length s) l; good = g }
-    good a m l (Bad at) g h = absurd (let z : ◌≡◌ {A = ℕ} refusal.not_utf8 refusal.served = h in omega arith)
+    good a m l (Some at) g h = absurd (let z : ◌≡◌ {A = ℕ} refusal.not_utf8 refusal.served = h in omega arith)
 
 -- WHERE OPENING ANSWERS `served`: from the words that it wrote on, call after call, each lent any memory of any length, gives the items of the
 -- whole-text call in order, each by the first call that has room for it, with its record and its decoded text from 0 on; before that 22, and

@@ -3,7 +3,7 @@ use crate::MEMORY_ROOM;
 use crate::frame::{FrameHead, spell_out};
 use items::kinds::{IN_MEMORY, IN_SOURCE, NO_TEXT, NUMBER};
 use items::{Nine, RECORD_WORDS, Record};
-use pieces_cuttings::{Cutting, Reading, part, record_at};
+use pieces_cuttings::{Cutting, Ending, Reading, part, record_at};
 use refusal::SERVED;
 
 // The first byte of a character has at least this where the character has two, three and four bytes.
@@ -96,42 +96,39 @@ fn all_met(
     texts: &[u8],
 ) -> bool {
     let mut at: usize = 0;
-    let mut n: usize = 0;
-    while n < items {
-        if counts.len() <= n {
+    for n in 0..items {
+        let Some(count) = counts.get(n) else {
             return false;
-        }
-        let count = counts[n];
+        };
         let given = record_at(records, n);
         let next = std::num::wrapping_add_usize(at, given.nine.past as usize);
         if !met(
             record_at(told, n),
             given,
             part(texts, at, next),
-            count,
+            *count,
             source,
             memory,
         ) {
             return false;
         }
         at = next;
-        n = n + 1;
     }
     true
 }
 
 // Whether a reading ends as a frame tells: with all items given, or with a stop and its place.
 fn ended(f: FrameHead, r: Reading) -> bool {
-    if !r.over {
-        return false;
-    }
     if !r.kept {
         return false;
     }
-    if f.answer == SERVED {
-        return r.refusal == 0;
+    match r.ending {
+        None => false,
+        Some(Ending::Finished) => f.answer == SERVED,
+        Some(Ending::Refused(refusal, place)) => {
+            refusal == f.answer && place == f.first as usize
+        }
     }
-    r.refusal == f.answer && r.place == f.first as usize
 }
 
 // Whether the piece calls give under a cutting what a frame tells.

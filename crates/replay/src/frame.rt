@@ -42,24 +42,16 @@ const LONG_WORD: u8 = 255;
 // How many bytes such a word has.
 const LONG_WORD_BYTES: usize = 5;
 
-// A byte as a word.
-fn wide(b: u8) -> u32 {
-    b as u32
-}
-
-// A byte as a count.
-fn count(b: u8) -> usize {
-    b as usize
+// A word that is spelled, and the place past it.
+#[derive(Clone, Copy)]
+struct Spelled {
+    word: u32,
+    past: usize,
 }
 
 // The number of two bytes, the lowest first.
 fn pair(low: u8, high: u8) -> usize {
-    count(low) | count(high) << 8
-}
-
-// The number of four bytes, the lowest first.
-fn four(a: u8, b: u8, c: u8, d: u8) -> u32 {
-    wide(a) | wide(b) << 8 | wide(c) << 16 | wide(d) << 24
+    usize::from(u16::from_le_bytes([low, high]))
 }
 
 // A head, of its bytes.
@@ -68,15 +60,15 @@ pub(crate) fn head(b: &[u8; HEAD]) -> FrameHead {
         whole: b[2] != PIECES_ALONE,
         pieces: b[2] != WHOLE_ALONE,
         skip: b[0] == 1,
-        mode: wide(b[1]),
-        answer: wide(b[3]),
+        mode: u32::from(b[1]),
+        answer: u32::from(b[3]),
         source: pair(b[4], b[5]),
         words: pair(b[6], b[7]),
         memory: pair(b[8], b[9]),
         records: pair(b[10], b[11]),
         text: pair(b[12], b[13]),
-        first: four(b[14], b[15], b[16], b[17]),
-        second: four(b[18], b[19], b[20], b[21]),
+        first: u32::from_le_bytes([b[14], b[15], b[16], b[17]]),
+        second: u32::from_le_bytes([b[18], b[19], b[20], b[21]]),
     }
 }
 
@@ -106,44 +98,39 @@ pub(crate) fn fill(file: &mut impl Read, to: &mut [u8], n: usize) -> io::Result<
     Ok(read_full(file, &mut to[..n])? == n)
 }
 
-// The word spelled from a place on; 0 where the bytes end before it does.
-fn word_at(told: &[u8], at: usize) -> u32 {
+// The word spelled from a place on, and the place past it; 0 and the end where the bytes end before it does.
+fn word_at(told: &[u8], at: usize) -> Spelled {
+    let none = Spelled {
+        word: 0,
+        past: told.len(),
+    };
     if told.len() <= at {
-        return 0;
+        return none;
     }
     if told[at] < LONG_WORD {
-        return wide(told[at]);
+        return Spelled {
+            word: u32::from(told[at]),
+            past: at + 1,
+        };
     }
     if told.len() - at < LONG_WORD_BYTES {
-        return 0;
+        return none;
     }
-    four(told[at + 1], told[at + 2], told[at + 3], told[at + 4])
-}
-
-// The place past the word spelled from a place on; the end where the bytes end before it does.
-fn past_word(told: &[u8], at: usize) -> usize {
-    if told.len() <= at {
-        return told.len();
+    Spelled {
+        word: u32::from_le_bytes([told[at + 1], told[at + 2], told[at + 3], told[at + 4]]),
+        past: at + LONG_WORD_BYTES,
     }
-    if told[at] < LONG_WORD {
-        return at + 1;
-    }
-    if told.len() - at < LONG_WORD_BYTES {
-        return told.len();
-    }
-    at + LONG_WORD_BYTES
 }
 
 // Whether the words spelled are those of the records, all of them.
 pub(crate) fn same_words(told: &[u8], records: &[u32]) -> bool {
     let mut at: usize = 0;
-    let mut n: usize = 0;
-    while n < records.len() {
-        if word_at(told, at) != records[n] {
+    for record in records {
+        let spelled = word_at(told, at);
+        if spelled.word != *record {
             return false;
         }
-        at = past_word(told, at);
-        n = n + 1;
+        at = spelled.past;
     }
     at == told.len()
 }
@@ -151,15 +138,13 @@ pub(crate) fn same_words(told: &[u8], records: &[u32]) -> bool {
 // Writes the words spelled, as far as there is room; how many there are.
 pub(crate) fn spell_out(told: &[u8], words: &mut [u32]) -> usize {
     let mut at: usize = 0;
-    let mut n: usize = 0;
-    while n < words.len() {
+    for (n, word) in words.iter_mut().enumerate() {
         if told.len() <= at {
             return n;
         }
-        let word = word_at(told, at);
-        words[n] = word;
-        at = past_word(told, at);
-        n = n + 1;
+        let spelled = word_at(told, at);
+        *word = spelled.word;
+        at = spelled.past;
     }
-    n
+    words.len()
 }

@@ -1,7 +1,7 @@
 // What the list tells of a text, against what the proved calls answer.
 use crate::cut;
 use crate::frame::{FrameHead, same_words};
-use lexer::ReadAnswer;
+use lexer::{Needed, ReadError};
 use pieces_cuttings::Cutting;
 use refusal::{LIMIT_VALUE, NO_MODE, NOT_UTF8, SERVED, TOO_FEW, TOO_LONG};
 
@@ -25,13 +25,15 @@ fn tells(f: FrameHead, answer: u32, first: u64, second: u64) -> bool {
 }
 
 // Whether a frame tells an answer.
-fn told(f: FrameHead, answer: ReadAnswer) -> bool {
+fn told(f: FrameHead, answer: Result<Needed, ReadError>) -> bool {
     match answer {
-        ReadAnswer::Served(items, bytes) => tells(f, SERVED, items as u64, bytes as u64),
-        ReadAnswer::NoMode(mode) => tells(f, NO_MODE, mode as u64, 0),
-        ReadAnswer::TooLong => tells(f, TOO_LONG, LIMIT_VALUE, 0),
-        ReadAnswer::NotUtf8(at) => tells(f, NOT_UTF8, at as u64, 0),
-        ReadAnswer::NoRoom(items, bytes) => tells(f, TOO_FEW, items as u64, bytes as u64),
+        Ok(done) => tells(f, SERVED, done.items as u64, done.text as u64),
+        Err(ReadError::NoMode(mode)) => tells(f, NO_MODE, mode as u64, 0),
+        Err(ReadError::TooLong) => tells(f, TOO_LONG, LIMIT_VALUE, 0),
+        Err(ReadError::NotUtf8(at)) => tells(f, NOT_UTF8, at as u64, 0),
+        Err(ReadError::NoRoom(needed)) => {
+            tells(f, TOO_FEW, needed.items as u64, needed.text as u64)
+        }
     }
 }
 
@@ -45,42 +47,33 @@ fn whole(
     text: &mut [u8],
 ) -> bool {
     let answer = lexer::read(source, f.mode, f.skip, records, text);
-    if !told(f, answer) {
-        return false;
-    }
-    if f.answer != SERVED {
-        return true;
-    }
-    same_words(words, records) && byte_runs::equal(memory, text)
+    told(f, answer)
+        && (f.answer != SERVED || same_words(words, records) && byte_runs::equal(memory, text))
 }
 
 // A byte at a time.
-fn bytes() -> Cutting {
-    Cutting {
-        first: 1,
-        low: 1,
-        high: 1,
-    }
-}
+const BYTES: Cutting = Cutting {
+    first: 1,
+    low: 1,
+    high: 1,
+};
 
 // An empty piece, one of a byte, and so on to four bytes, again and again.
-fn mixed() -> Cutting {
-    Cutting {
-        first: 0,
-        low: 0,
-        high: 4,
-    }
-}
+const MIXED: Cutting = Cutting {
+    first: 0,
+    low: 0,
+    high: 4,
+};
 
 // What comes of a frame with the piece calls, if it is told of them.
 fn in_pieces(f: FrameHead, source: &[u8], words: &[u8], memory: &[u8]) -> Verdict {
     if !f.pieces {
         return Verdict::Met;
     }
-    if !cut::frame(f, source, words, memory, bytes()) {
+    if !cut::frame(f, source, words, memory, BYTES) {
         return Verdict::Bytes;
     }
-    if !cut::frame(f, source, words, memory, mixed()) {
+    if !cut::frame(f, source, words, memory, MIXED) {
         return Verdict::Pieces;
     }
     Verdict::Met
@@ -113,32 +106,20 @@ pub(crate) fn frame(
     records: &mut [u32],
     text: &mut [u8],
 ) -> Verdict {
-    let n = f.source;
-    let spelled = f.words;
-    let decoded = f.memory;
-    let lent = f.records;
-    let bytes = f.text;
-    if source.len() < n {
-        return Verdict::Broken;
-    }
-    if words.len() < spelled {
-        return Verdict::Broken;
-    }
-    if memory.len() < decoded {
-        return Verdict::Broken;
-    }
-    if records.len() < lent {
-        return Verdict::Broken;
-    }
-    if text.len() < bytes {
+    if source.len() < f.source
+        || words.len() < f.words
+        || memory.len() < f.memory
+        || records.len() < f.records
+        || text.len() < f.text
+    {
         return Verdict::Broken;
     }
     judged(
         f,
-        &source[..n],
-        &words[..spelled],
-        &memory[..decoded],
-        &mut records[..lent],
-        &mut text[..bytes],
+        &source[..f.source],
+        &words[..f.words],
+        &memory[..f.memory],
+        &mut records[..f.records],
+        &mut text[..f.text],
     )
 }

@@ -39,11 +39,7 @@ fn print_done(rt: &impl Print, list: &str, done: Done) -> io::Result<()> {
 
 // The same, when nothing is left to replay.
 fn over(done: Done) -> Done {
-    Done {
-        whole: done.whole,
-        pieces: done.pieces,
-        over: true,
-    }
+    Done { over: true, ..done }
 }
 
 // Says that all answers were met.
@@ -130,13 +126,10 @@ fn judged(
         return met(rt, list, done);
     }
     let f = frame::head(&b);
-    if !frame::fill(file, source, f.source)? {
-        return broken(rt, list, done);
-    }
-    if !frame::fill(file, words, f.words)? {
-        return broken(rt, list, done);
-    }
-    if !frame::fill(file, memory, f.memory)? {
+    if !frame::fill(file, source, f.source)?
+        || !frame::fill(file, words, f.words)?
+        || !frame::fill(file, memory, f.memory)?
+    {
         return broken(rt, list, done);
     }
     let verdict = judge::frame(f, source, words, memory, records, text);
@@ -170,13 +163,11 @@ fn replay(rt: &impl Print, file: &mut impl Read, list: &str) -> io::Result<()> {
         pieces: 0,
         over: false,
     };
-    let mut frames = MOST_FRAMES;
-    while frames > 0 {
+    for _ in 0..MOST_FRAMES {
         done = one(rt, file, list, done)?;
         if done.over {
             return Ok(());
         }
-        frames = frames - 1;
     }
     Ok(())
 }

@@ -9,7 +9,7 @@ use lib.Dec.{eqb}
 use lib.ListN.{length, get_or, take, drop, length-drop}
 use lib.Seq.{length-take-le}
 use borrow.Author.Tests.{eq-eqb, ne_eqb, lt-ltb, le-ltb}
-use Rattle.std.specs.Prelude.{if◌then◌else◌}
+use Rattle.std.specs.Prelude.{if◌then◌else◌, Err, Ok, Result}
 use Rattle.laws.specs.Quoted.{code}
 use Rattle.laws.proofs.Lent.{part_rest}
 use Rattle.laws.proofs.Choice.{and_no}
@@ -18,8 +18,8 @@ use Rattle.chars.specs.Utf8.{Front, front, placed}
 use Rattle.chars.specs.declared.Decoded.{Decoded}
 use Rattle.chars.specs.declared.Decoded.TheVariants as decoded
 use Rattle.digits.specs.Hex.{hex_value}
-use Rattle.items.specs.declared.CharValue.{CharValue}
-use Rattle.items.specs.declared.CharValue.TheVariants.{Scalar, Wrong, WrongAt}
+use Rattle.items.specs.declared.CharError.{CharError}
+use Rattle.items.specs.declared.CharError.TheVariants.{Wrong, WrongAt}
 use Rattle.items.specs.Kinds as kind
 use Rattle.items.specs.Readers.{scalar_of}
 use Rattle.items.proofs.Failing.{Inside, hex_inside}
@@ -27,8 +27,8 @@ use Rattle.items.specs.Meaning.{before_delimiter, nameless, only_one, later, hex
 
 -- ---- one character alone, by what stands at the front of the text
 
-abbrev alone : Bool → Decoded → List ℕ → CharValue
-alone report (decoded.Char c n) t = if eqb n (length t) then Scalar c else nameless report t
+abbrev alone : Bool → Decoded → List ℕ → Result ℕ CharError
+alone report (decoded.Char c n) t = if eqb n (length t) then Ok c else nameless report t
 alone report decoded.Bad t = nameless report t
 alone report decoded.Cut t = nameless report t
 alone report decoded.End t = nameless report t
@@ -44,7 +44,7 @@ module _ (report : Bool) (t : List ℕ) {d : Decoded} (e : d ≡ placed 0 (front
   alone_is a g = ap (λ (x : Decoded). alone report x t) (sym g ∙ e) ∙ alone_front report (front t) t
 
   module _ (c n : ℕ) (g : d ≡ decoded.Char c n) where
-    pub alone_all : n ≡ length t → Scalar c ≡ only_one report (front t) t
+    pub alone_all : n ≡ length t → Ok c ≡ only_one report (front t) t
     alone_all h = rw (eq-eqb n (length t) h) at (alone_is (decoded.Char c n) g)
 
     pub alone_more : (n ≡ length t → ⊥) → nameless report t ≡ only_one report (front t) t
@@ -57,15 +57,15 @@ module _ (report : Bool) (t : List ℕ) where
     first_suc : suc (before_delimiter (drop 1 t)) ≡ p
     first_suc = omega arith
 
-    pub delimited : p < length t → WrongAt kind.InvalidCharDelimiter 0 p ≡ nameless report t
+    pub delimited : p < length t → Err (WrongAt kind.InvalidCharDelimiter 0 p) ≡ nameless report t
     unfolding nameless
     delimited h = rw (told, first_suc, lt-ltb p (length t) h)
 
-    pub undelimited : length t ≤ p → Wrong kind.InvalidCharName 0 ≡ nameless report t
+    pub undelimited : length t ≤ p → Err (Wrong kind.InvalidCharName 0) ≡ nameless report t
     unfolding nameless
     undelimited h = rw (told, first_suc, le-ltb p (length t) h)
 
-  pub untold : report ≡ false → Wrong kind.InvalidCharName 0 ≡ nameless report t
+  pub untold : report ≡ false → Err (Wrong kind.InvalidCharName 0) ≡ nameless report t
   unfolding nameless
   untold h = rw h
 
@@ -82,7 +82,7 @@ module _ (t : List ℕ) where
     hex_u_lem h = rw (part_rest t 1, eq-eqb _ _ u, ne_eqb _ _ h)
 
     module _ (brace : get_or t 1 0 ≡ code "{") where
-      pub hex_unclosed : (get_or t (length t - 1) 0 ≡ code "}" → ⊥) → Wrong kind.UnclosedHexEscape (code "}") ≡ hex_named t
+      pub hex_unclosed : (get_or t (length t - 1) 0 ≡ code "}" → ⊥) → Err (Wrong kind.UnclosedHexEscape (code "}")) ≡ hex_named t
       unfolding hex_named
       hex_unclosed h = rw (eq-eqb _ _ u, eq-eqb _ _ brace, ne_eqb _ _ h)
 
@@ -100,7 +100,7 @@ module _ (t : List ℕ) where
 
 -- the failing place of a part, counted from the start of the whole, is no place past the end
 pub part_place : (t : List ℕ) (from to e d p : ℕ) → from ≤ to → to ≤ length t
-    → scalar_of (hex_value (take (to - from) (drop from t))) ≡ WrongAt e d p
+    → scalar_of (hex_value (take (to - from) (drop from t))) ≡ Err (WrongAt e d p)
     → from + p ≤ length t
 part_place t from to e d p h g f =
     let part : List ℕ = take (to - from) (drop from t) in

@@ -68,12 +68,10 @@ fn equal_lower(t: &[u8], name: &[u8]) -> bool
     if t.len() != name.len() {
         return false;
     }
-    let mut i = 0;
-    while i < t.len() {
+    for i in 0..t.len() {
         if lower_case(t[i]) != name[i] {
             return false;
         }
-        i += 1;
     }
     true
 }
@@ -84,10 +82,8 @@ fn is_name(t: &[u8], k: usize) -> bool
     ensures { result ≡ same (map lower t.now) (name_of k) }
 {
     let row = name_row(k);
-    if 0 < t.len() {
-        if lower_case(t[0]) != row[0] {
-            return false;
-        }
+    if 0 < t.len() && lower_case(t[0]) != row[0] {
+        return false;
     }
     let length = find(&row, 0, PADDING);
     equal_lower(t, &row[..length])
@@ -100,12 +96,10 @@ pub fn name_code(t: &[u8]) -> u32
     if t.len() <= 1 {
         return UNNAMED;
     }
-    let mut k = 0;
-    while k < NAME_ROWS {
+    for k in 0..NAME_ROWS {
         if is_name(t, k) {
             return row_code(k);
         }
-        k += 1;
     }
     UNNAMED
 }

@@ -1,5 +1,6 @@
 -- In a good text the bytes before the first of two characters of ASCII are whole characters, so that quotes and comments, which only those
 -- two change, are passed up to there.
+use Rattle.std.proofs.Common.{None}
 use Prim.Native.Nat.{ℕ, ◌+◌, ◌≤◌, ◌<◌}
 use native.Mathlib.Omega.{arith}
 use mathlib.Core.Path.{◌≡◌, refl, sym, ap, subst, ◌∙◌}
@@ -15,7 +16,6 @@ use Rattle.laws.proofs.Choice.{by_bool, yes_no}
 use Rattle.laws.proofs.Runs.{span_le, span_hit, span_stop}
 use Rattle.laws.proofs.Blocks.{block_on}
 use Rattle.byte_runs.specs.Runs.{apart, plain}
-use Rattle.chars.specs.declared.Utf8.TheVariants.{Good}
 use Rattle.chars.specs.Utf8.{char, front, first_bad, chars}
 use Rattle.chars.specs.Encode.{utf8, width, bytes_of}
 use Rattle.chars.proofs.Table.{within_below}
@@ -101,7 +101,7 @@ module _ (s : List ℕ) (p : Phase) (a b : ℕ) (holds : Holds p a b) where
 
 -- ---- the run
 
-pub passes_apart : (s : List ℕ) (p : Phase) (a b from e : ℕ) → Holds p a b → a < 0x80 → b < 0x80 → from ≤ length s → first_bad (drop from s) ≡ Good
+pub passes_apart : (s : List ℕ) (p : Phase) (a b from e : ℕ) → Holds p a b → a < 0x80 → b < 0x80 → from ≤ length s → first_bad (drop from s) ≡ None
     → e ≡ from + span (apart a b) (drop from s) → Passes s p from e
 passes_apart s p a b from e holds small-a small_b h g q =
     let l = drop from s in

@@ -7,7 +7,8 @@ use lib.ListN.{length, get_or, take, drop, length-drop}
 use lib.Seq.{drop-drop, length-take-le}
 use lib.Dec.{eqb, ltb}
 use native.Mathlib.Omega.{arith}
-use borrow.Author.Tests.{lt-ltb, le-ltb, ltb-false, eq-eqb, ne_eqb}
+use Rattle.std.specs.List.{position_or_len}
+use borrow.Author.Tests.{eqb-false, lt-ltb, le-ltb, ltb-false, eq-eqb, ne_eqb}
 use Rattle.laws.specs.Quoted.{code}
 use Rattle.laws.specs.Texts.{span, before, begins}
 use Rattle.laws.proofs.Choice.{by_bool, and_true, yes_no, no_yes}
@@ -215,3 +216,18 @@ passes_walk s a k from e r line l h none (goes {m} {n} {c} w less f) =
       q.inside,
       λ report. y.2 report ∙ body_on s a m k line (omega (arith, y.0)) (sym (none m y.0 less)) refl c (m + n) q report,
     )
+
+-- where a line's first byte stands that is no carriage return
+pub first_kept : (l : List ℕ) → (position_or_len (λ (b : ℕ). not (eqb b (code "\r"))) l ≤ length l)
+    × (unreturned (drop (position_or_len (λ (b : ℕ). not (eqb b (code "\r"))) l) l) ≡ unreturned l)
+    × (position_or_len (λ (b : ℕ). not (eqb b (code "\r"))) l < length l
+    → get_or l (position_or_len (λ (b : ℕ). not (eqb b (code "\r"))) l) 0 ≡ code "\r" → ⊥)
+unfolding unreturned
+first_kept [] = (omega arith, refl, λ h. absurd (omega arith))
+first_kept (c ∷ t) =
+    let k = first_kept t in
+    let n = position_or_len (λ (b : ℕ). not (eqb b (code "\r"))) t in
+    let up : 1 + n ≡ suc n = omega arith in
+    by_bool (eqb c (code "\r"))
+    (λ e. rw e (rw up (omega (arith, k.0), k.1, λ h. k.2 (omega (arith, h)))))
+    (λ e. rw e (omega arith, rw e, λ h q. eqb-false c (code "\r") e q))

@@ -1,6 +1,8 @@
 -- An item whose run of characters ends at the end of the text, or before a character of ASCII that stops it there, ends there.
+use Rattle.std.proofs.Common.{None, Option, Some}
 use Prim.Native.Nat.{ℕ, suc, ◌+◌, ◌-◌, ◌≤◌, ◌<◌}
-use mathlib.Core.Path.{◌≡◌, refl, sym, ap, ◌∙◌}
+use mathlib.Core.Path.{◌≡◌, refl, sym, ap, subst, ◌∙◌}
+use Rattle.std.specs.Bool.{then_some}
 use mathlib.Core.Bool.{Bool, true, false, not}
 use mathlib.Core.List.{List, [], ◌∷◌}
 use lib.Dec.{eqb}
@@ -27,12 +29,15 @@ use Rattle.items.specs.Meaning.{escaped}
 use Rattle.items.specs.Machine.{step_of, finish_of, scan_of}
 use Rattle.steps.specs.Scan.{part, scanned, answer, Passes}
 use Rattle.steps.specs.Runs.{keeps, of_word, of_run}
-use Rattle.steps.specs.declared.Ending.{Ending}
-use Rattle.steps.specs.declared.Ending.TheVariants.{At, Unknown}
 use Rattle.steps.specs.Ended.{EndsAs, ClosesAt}
 use Rattle.steps.proofs.Turn.{turn_eat, turn_stop, turn_out}
 use Rattle.steps.proofs.Kept.{ascii_found, done_scan}
 use Rattle.steps.proofs.Letters.{passes_none}
+
+-- what is told where a test passes, and of nothing else
+pub told : (P : Option ℕ → Type 0) → P None → (b : Bool) (e : ℕ) (r : Option ℕ) → r ≡ then_some b e → (b ≡ true → P (Some e)) → P r
+told P n true e r q h = subst P (sym q) (h refl)
+told P n false e r q h = subst P (sym q) n
 
 -- where a run ends before the text does, its test fails
 span_fails : (f : ℕ → Bool) (t : List ℕ) → span f t < length t → f (get_or t (span f t) 0) ≡ false
@@ -150,17 +155,17 @@ space_ends report = refl
 
 module _ (s : List ℕ) (from e : ℕ) where
   module _ (pass : Passes s ph.InWord from e) (report : Bool) where
-    pub word_out : length s ≤ e → EndsAs s report ph.InWord Word from (At e)
+    pub word_out : length s ≤ e → EndsAs s report ph.InWord Word from (Some e)
     word_out h a k = ended_out s report from ph.InWord e pass a k h
 
-    pub word_before : e < length s → get_or s e 0 < 0x80 → (get_or s e 0 ≡ code "\\" → ⊥) → of_word (get_or s e 0) ≡ false → EndsAs s report ph.InWord Word from (At e)
+    pub word_before : e < length s → get_or s e 0 < 0x80 → (get_or s e 0 ≡ code "\\" → ⊥) → of_word (get_or s e 0) ≡ false → EndsAs s report ph.InWord Word from (Some e)
     word_before h l n f a k = ended_stop s report from ph.InWord e pass a k Word h l (word_stops report (get_or s e 0) l n f)
 
   module _ (pass : Passes s ph.InRun from e) (report : Bool) where
-    pub run_out : length s ≤ e → EndsAs s report ph.InRun Run from (At e)
+    pub run_out : length s ≤ e → EndsAs s report ph.InRun Run from (Some e)
     run_out h a k = ended_out s report from ph.InRun e pass a k h
 
-    pub run_before : e < length s → get_or s e 0 < 0x80 → ends_run report (get_or s e 0) ≡ true → of_run (get_or s e 0) ≡ false → EndsAs s report ph.InRun Run from (At e)
+    pub run_before : e < length s → get_or s e 0 < 0x80 → ends_run report (get_or s e 0) ≡ true → of_run (get_or s e 0) ≡ false → EndsAs s report ph.InRun Run from (Some e)
     run_before h l n f a k = ended_stop s report from ph.InRun e pass a k Run h l (run_stops report (get_or s e 0) l n f)
 
   module _ (k : Quotes) (pass : Passes s (ph.Quoted k) from e) (h : e < length s) (q : get_or s e 0 ≡ delim_of k) where
@@ -175,23 +180,32 @@ module _ (s : List ℕ) (from e : ℕ) where
         record { some = omega (arith, pass.0); inside = omega arith; last = rw back q; unescaped = bare; is = closed_before }
 
   module _ (pass : Passes s ph.InLine from e) (report : Bool) where
-    pub line_out : length s ≤ e → EndsAs s report ph.InLine comment from (At e)
+    pub line_out : length s ≤ e → EndsAs s report ph.InLine comment from (Some e)
     line_out h a k = ended_out s report from ph.InLine e pass a k h
 
-    pub line_before : e < length s → get_or s e 0 ≡ code "\n" → EndsAs s report ph.InLine comment from (At (e + 1))
+    pub line_before : e < length s → get_or s e 0 ≡ code "\n" → EndsAs s report ph.InLine comment from (Some (e + 1))
     line_before h q a k =
         ended_eat s report from ph.InLine e pass a k comment (ph.Done comment) h (omega (arith, q)) (newline_closes report _ q)
         (λ i cs. sym (done_scan report comment i cs))
 
   pub nested_before : Passes s (ph.Nest 1) from e → (report : Bool) → e + 1 < length s → get_or s e 0 ≡ code "|" → get_or s (e + 1) 0 ≡ code "#"
-      → EndsAs s report (ph.Nest 1) comment from (At (e + 1 + 1))
+      → EndsAs s report (ph.Nest 1) comment from (Some (e + 1 + 1))
   nested_before pass report h b q a k =
       eaten s report from (ph.Nest 1) e pass a k (ph.NestBar 1) (omega arith) (omega (arith, b)) (bar_opens report 1 _ b)
       ∙ ended_eat s report (e + 1) (ph.NestBar 1) (e + 1) (passes_none s (ph.NestBar 1) (e + 1) (omega arith)) a (omega (arith, pass.0)) comment (ph.Done comment)
       h (omega (arith, q)) (sharp_closes report _ q) (λ i cs. sym (done_scan report comment i cs))
 
+  pub nested_sign : Passes s (ph.Nest 1) from e → (report : Bool) (rest : List ℕ) → drop e s ≡ code "|" ∷ code "#" ∷ rest
+      → EndsAs s report (ph.Nest 1) comment from (Some (e + 2))
+  nested_sign pass report rest q =
+      let more : e + 1 + 1 ≡ e + 2 = omega arith in
+      let here : e ≡ e + 0 = omega arith in
+      rw (← more) (nested_before pass report (omega (arith, ap length q, length-drop e s))
+      (ap (λ (i : ℕ). get_or s i 0) here ∙ sym (get_or-drop e s 0 0) ∙ ap (λ (l : List ℕ). get_or l 0 0) q)
+      (sym (get_or-drop e s 1 0) ∙ ap (λ (l : List ℕ). get_or l 1 0) q))
+
 -- ---- past a part of the run
 
-pub ends_past : (s : List ℕ) (report : Bool) (p : Phase) (o : Outcome) (from e : ℕ) (r : Ending) → Passes s p from e → EndsAs s report p o e r → EndsAs s report p o from r
-ends_past s report p o from e (At x) pass k = λ a h. pass.2 report a h ∙ k a (omega (arith, pass.0))
-ends_past s report p o from e Unknown pass k = tt
+pub ends_past : (s : List ℕ) (report : Bool) (p : Phase) (o : Outcome) (from e : ℕ) (r : Option ℕ) → Passes s p from e → EndsAs s report p o e r → EndsAs s report p o from r
+ends_past s report p o from e (Some x) pass k = λ a h. pass.2 report a h ∙ k a (omega (arith, pass.0))
+ends_past s report p o from e None pass k = tt

@@ -52,13 +52,9 @@ fn unreturned_length(line: &[u8]) -> usize
     ensures { result ≡ length (unreturned line.now) }
 {
     let mut n = 0;
-    let mut i = 0;
-    while i < line.len() {
-        if line[i] == b'\r' {
-            i += 1;
-        } else {
+    for &b in line {
+        if b != b'\r' {
             n += 1;
-            i += 1;
         }
     }
     n
@@ -68,21 +64,18 @@ fn unreturned_length(line: &[u8]) -> usize
 fn begins_with_line(text: &[u8], line: &[u8]) -> bool
     ensures { result ≡ begins (unreturned line.now) text.now }
 {
-    let mut i = 0;
     let mut j = 0;
-    while i < line.len() {
-        if line[i] == b'\r' {
-            i += 1;
-        } else {
-            if text.len() <= j {
-                return false;
-            }
-            if line[i] != text[j] {
-                return false;
-            }
-            i += 1;
-            j += 1;
+    for &b in line {
+        if b == b'\r' {
+            continue;
         }
+        if text.len() <= j {
+            return false;
+        }
+        if text[j] != b {
+            return false;
+        }
+        j += 1;
     }
     true
 }

@@ -28,11 +28,3 @@ pub struct Scanned {
     pub what: Outcome,
     pub end: usize,
 }
-
-// Where an item ends, as far as one look tells.
-#[derive(Clone, Copy)]
-pub enum Ending {
-    At(usize),
-    // the scan tells: a word with a backslash
-    Unknown,
-}

@@ -107,28 +107,24 @@ pub fn finish(phase: Phase, raw: &[u8]) -> Outcome
     match phase {
         Phase::InLine => Outcome::Token(kinds::COMMENT, kinds::NO_DETAIL),
         Phase::AfterComma => Outcome::Token(kinds::UNQUOTE, kinds::NO_DETAIL),
-        Phase::AfterHash => hash::hash_last(hash::hash_kind(raw)),
-        Phase::AfterAngle => Outcome::Word,
-        Phase::HereDelim => Outcome::Error(kinds::INCOMPLETE_STRING, kinds::NO_DETAIL),
-        Phase::HereStart => Outcome::Error(kinds::INCOMPLETE_STRING, kinds::NO_DETAIL),
+        Phase::HereDelim | Phase::HereStart => {
+            Outcome::Error(kinds::INCOMPLETE_STRING, kinds::NO_DETAIL)
+        }
         Phase::HereBody => here::here_last(raw),
-        Phase::InWord => Outcome::Word,
-        Phase::WordEscape => Outcome::Word,
+        Phase::AfterAngle | Phase::InWord | Phase::WordEscape => Outcome::Word,
         Phase::InRun => Outcome::Run,
-        Phase::InHash => hash::hash_last(hash::hash_kind(raw)),
-        Phase::HashEscape => hash::hash_last(hash::hash_kind(raw)),
-        Phase::HashTick => hash::hash_last(hash::hash_kind(raw)),
-        Phase::HashComma => hash::hash_last(hash::hash_kind(raw)),
-        Phase::Nest(_) => Outcome::Error(kinds::INCOMPLETE_COMMENT, kinds::NO_DETAIL),
-        Phase::NestBar(_) => Outcome::Error(kinds::INCOMPLETE_COMMENT, kinds::NO_DETAIL),
-        Phase::NestSharp(_) => Outcome::Error(kinds::INCOMPLETE_COMMENT, kinds::NO_DETAIL),
+        Phase::AfterHash | Phase::InHash | Phase::HashEscape | Phase::HashTick | Phase::HashComma =>
+            hash::hash_last(hash::hash_kind(raw)),
+        Phase::Nest(_) | Phase::NestBar(_) | Phase::NestSharp(_) => {
+            Outcome::Error(kinds::INCOMPLETE_COMMENT, kinds::NO_DETAIL)
+        }
         Phase::Quoted(k) => quotes::unclosed(k, raw),
         Phase::Closed(k) => quotes::closed(k, raw),
-        Phase::TrimBefore(k) => quotes::cut(k),
-        Phase::TrimAfter(k) => quotes::cut(k),
-        Phase::Escape(k, _) => quotes::cut(k),
-        Phase::Brace(k, _) => quotes::cut(k),
-        Phase::Hex(k, _, _, _) => quotes::cut(k),
+        Phase::TrimBefore(k)
+        | Phase::TrimAfter(k)
+        | Phase::Escape(k, _)
+        | Phase::Brace(k, _)
+        | Phase::Hex(k, _, _, _) => quotes::cut(k),
         Phase::Done(o) => o,
     }
 }
@@ -164,13 +160,7 @@ fn scan_on(s: &[u8], report: bool, start: usize, from: usize, first: Phase) -> S
                     return Scanned { what, end: at };
                 }
             },
-            Decoded::Bad => {
-                return scan_end(s, start, at, phase);
-            }
-            Decoded::Cut => {
-                return scan_end(s, start, at, phase);
-            }
-            Decoded::End => {
+            Decoded::Bad | Decoded::Cut | Decoded::End => {
                 return scan_end(s, start, at, phase);
             }
         }

@@ -7,10 +7,11 @@ ghost use Rattle.items.specs.Classes.{delim_of, in_quotes, after_backslash, stop
 ghost use Rattle.items.specs.Readers.{so_far, eat, lined_of, closed, unclosed, cut, scalar_of, failing};
 ghost use Rattle.items.specs.Machine.{on_quoted, on_escape, close_hex, on_hex, on_brace, on_trim_before, on_trim_after};
 
+use crate::runs::delimiter;
 use crate::signs::*;
 use chars::char_width;
 use digits::hex_value;
-use items::{CharValue, Next, Outcome, Phase, Quotes, kinds};
+use items::{CharError, Next, Outcome, Phase, Quotes, kinds};
 use spellings::characters::scalar_of;
 use spellings::failing::{past_failing, rest};
 
@@ -18,10 +19,7 @@ use spellings::failing::{past_failing, rest};
 fn delim_of(k: Quotes) -> u32
     ensures { result ≡ delim_of k }
 {
-    match k {
-        Quotes::Double => DOUBLE_QUOTE,
-        Quotes::Lines => VERTICAL,
-    }
+    u32::from(delimiter(k))
 }
 
 // What a word is, at its end, that has a vertical line where `read_word` began.
@@ -196,10 +194,12 @@ fn close_hex(
     ensures { result ≡ close_hex report (scalar_of (hex_value (drop n raw.now))) k from n to (so_far raw.now at) }
 {
     let digits = rest(raw, n);
-    match scalar_of(hex_value(digits)) {
-        CharValue::Scalar(_) => Next::Eat(Phase::Quoted(k)),
-        CharValue::Wrong(error, detail) => broken(error, detail, from, to),
-        CharValue::WrongAt(error, detail, place) => {
+    let Err(e) = scalar_of(hex_value(digits)) else {
+        return Next::Eat(Phase::Quoted(k));
+    };
+    match e {
+        CharError::Wrong(error, detail) => broken(error, detail, from, to),
+        CharError::WrongAt(error, detail, place) => {
             let left = rest(digits, place);
             failing_at(report, error, detail, from, to, at - left.len(), left)
         }

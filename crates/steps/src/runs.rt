@@ -11,12 +11,12 @@ ghost use Rattle.steps.specs.Held.{Holds};
 
 use crate::here::past_body;
 use crate::words::{breaks_word, stays_run};
-use byte_runs::{ASCII_END, plain_end};
+use byte_runs::{ASCII_END, ByteClass, bytes_end, plain_end};
 use chars::{between, letter_at, wide_end};
 use items::{Phase, Quotes};
 
 // What closes the quotes.
-fn delimiter(k: Quotes) -> u8
+pub(crate) fn delimiter(k: Quotes) -> u8
     ensures { result ≡ delim_of k }
 {
     match k {
@@ -41,25 +41,29 @@ fn of_word(c: u8) -> bool
     if ASCII_END <= c {
         return false;
     }
-    if breaks_word(c as u32) {
+    if breaks_word(u32::from(c)) {
         return false;
     }
     c != b'\\'
+}
+
+// The characters of ASCII that a word goes on with.
+#[derive(Clone, Copy)]
+struct WordBytes;
+
+impl ByteClass for WordBytes {
+    ghost passes = { λ s c. of_word c };
+
+    fn ends(self, c: u8) -> bool {
+        !of_word(c)
+    }
 }
 
 // Where the characters end that a word goes on with.
 pub(crate) fn word_end(s: &[u8], at: usize) -> usize
     ensures { result ≡ at + span of_word (drop at s.now) }
 {
-    let mut i = at;
-    while i < s.len() {
-        if of_word(s[i]) {
-            i += 1;
-        } else {
-            return i;
-        }
-    }
-    i
+    bytes_end(s, at, WordBytes)
 }
 
 // Whether a number run goes on with a byte. Most are digits or a dot, and most runs end before a blank or a bracket, all of which come
@@ -79,22 +83,26 @@ fn of_run(c: u8) -> bool
     if ASCII_END <= c {
         return false;
     }
-    stays_run(c as u32)
+    stays_run(u32::from(c))
+}
+
+// The characters of ASCII that a number run goes on with.
+#[derive(Clone, Copy)]
+struct RunBytes;
+
+impl ByteClass for RunBytes {
+    ghost passes = { λ s c. of_run c };
+
+    fn ends(self, c: u8) -> bool {
+        !of_run(c)
+    }
 }
 
 // Where the characters end that a number run goes on with.
 pub(crate) fn number_end(s: &[u8], at: usize) -> usize
     ensures { result ≡ at + span of_run (drop at s.now) }
 {
-    let mut i = at;
-    while i < s.len() {
-        if of_run(s[i]) {
-            i += 1;
-        } else {
-            return i;
-        }
-    }
-    i
+    bytes_end(s, at, RunBytes)
 }
 
 // Past a run of characters of ASCII that leave an item in its phase.

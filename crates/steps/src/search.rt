@@ -31,14 +31,7 @@ pub(crate) fn kept_start(line: &[u8]) -> usize
     ensures { (result ≤ length line.now) × (unreturned (drop result line.now) ≡ unreturned line.now)
         × (result < length line.now → get_or line.now result 0 ≡ code "\r" → ⊥) }
 {
-    let mut i = 0;
-    while i < line.len() {
-        if line[i] != b'\r' {
-            return i;
-        }
-        i += 1;
-    }
-    i
+    line.iter().position(|&b| b != b'\r').unwrap_or(line.len())
 }
 
 // Past the last byte of a line that is no carriage return.
@@ -46,14 +39,12 @@ pub(crate) fn kept_end(line: &[u8]) -> usize
     ensures { (result ≤ length line.now) × (unreturned (take result line.now) ≡ unreturned line.now)
         × (0 < result → get_or line.now (result - 1) 0 ≡ code "\r" → ⊥) }
 {
-    let mut i = line.len();
-    while 0 < i {
-        if line[i - 1] != b'\r' {
-            return i;
+    for i in (0..line.len()).rev() {
+        if line[i] != b'\r' {
+            return i + 1;
         }
-        i -= 1;
     }
-    i
+    0
 }
 
 // Whether the byte q of those known differs from that of another place.

@@ -8,7 +8,7 @@ ghost use Rattle.items.specs.Machine.{on_word, enter_word, on_run};
 use crate::signs::*;
 use chars::is_blank;
 use items::{Next, Outcome, Phase, Quotes};
-use numbers::{Parsed, parse_number};
+use numbers::{ParseError, parse_number};
 
 // Whether a character ends a word.
 pub(crate) fn breaks_word(c: u32) -> bool
@@ -49,10 +49,7 @@ pub(crate) fn enter_word(c: u32) -> Next
 pub(crate) fn is_digit(c: u32) -> bool
     ensures { result ≡ one_of (codes "0123456789") c }
 {
-    if c < ZERO {
-        return false;
-    }
-    c <= NINE
+    (ZERO..=NINE).contains(&c)
 }
 
 // Whether a number run goes on with a character.
@@ -91,9 +88,9 @@ fn is_numeric(raw: &[u8]) -> bool
     ensures { result ≡ numeric (parse_number raw.now) }
 {
     match parse_number(raw) {
-        Parsed::Is(_parts) => true,
-        Parsed::NoNumber => false,
-        Parsed::ZeroDenominator => true,
+        Ok(_) => true,
+        Err(ParseError::NoNumber) => false,
+        Err(ParseError::ZeroDenominator) => true,
     }
 }
 
@@ -101,12 +98,7 @@ fn is_numeric(raw: &[u8]) -> bool
 fn bars_run(report: bool, raw: &[u8], c: u32) -> bool
     ensures { result ≡ bars_run report raw.now c }
 {
-    if c == VERTICAL {
-        if report {
-            return is_numeric(raw);
-        }
-    }
-    false
+    c == VERTICAL && report && is_numeric(raw)
 }
 
 // In a number run, whose bytes so far are `raw`: `read_number`.

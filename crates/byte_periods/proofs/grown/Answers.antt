@@ -1,6 +1,5 @@
 -- The loop keeps the greatest suffix of the bytes so far. Each turn its start or its end is later.
 use native.Mathlib.Omega.{arith}
-use Prim.Native.Nat.{◌-◌}
 use Rattle.byte_periods.proofs.grown.Goals as goal
 
 pub loop-v-init : goal.loop-v-init

@@ -10,11 +10,11 @@ returns-then-t-gt-LIMIT c = judged_long _ _ c.if-t-gt-LIMIT.true
 pub returns-then-is_ascii : goal.returns-then-is_ascii
 returns-then-is_ascii c = judged_good _ _ c.if-t-gt-LIMIT.false (ascii_whole _ (sym c.if-is_ascii.true ∙ c.is_ascii.ensures))
 
-pub returns-in-Good : goal.returns-in-Good
-returns-in-Good c = judged_good _ _ c.if-t-gt-LIMIT.false (sym c.in-Good.is
+pub returns-in-None : goal.returns-in-None
+returns-in-None c = judged_good _ _ c.if-t-gt-LIMIT.false (sym c.in-None.is
     ∙ c.first_bad.ensures)
 
-pub returns-in-Bad : goal.returns-in-Bad
-returns-in-Bad c =
-    judged_bad _ _ c.if-t-gt-LIMIT.false _ (sym c.in-Bad.is
+pub returns-in-Some : goal.returns-in-Some
+returns-in-Some c =
+    judged_bad _ _ c.if-t-gt-LIMIT.false _ (sym c.in-Some.is
     ∙ c.first_bad.ensures)

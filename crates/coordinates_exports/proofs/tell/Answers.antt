@@ -1,17 +1,19 @@
 -- Each case of the answer has its number, and writes to one of the two places.
+use Rattle.coordinates.specs.declared.CoordinateError.TheVariants.{TooLong, NotUtf8, NoExtent, NoCoordinate}
+use Rattle.coordinates.proofs.Calls.{refused_as}
 use Rattle.coordinates_exports.proofs.tell.Goals as goal
 
-pub returns-in-Value : goal.returns-in-Value
-returns-in-Value c = (rw c.in-Value.is, rw c.in-Value.is, rw c.in-Value.is)
+pub returns-in-Ok : goal.returns-in-Ok
+returns-in-Ok c = (rw c.in-Ok.is, rw c.in-Ok.is, rw c.in-Ok.is)
 
-pub returns-in-TooLong : goal.returns-in-TooLong
-returns-in-TooLong c = (rw c.in-TooLong.is, rw c.in-TooLong.is, rw c.in-TooLong.is)
+pub returns-in-Err-TooLong : goal.returns-in-Err-TooLong
+returns-in-Err-TooLong c = (rw (refused_as _ _ TooLong c.in-Err-TooLong.is (rw c.in-Err-TooLong.is at c.in-Err-TooLong.field-0-is)), rw (refused_as _ _ TooLong c.in-Err-TooLong.is (rw c.in-Err-TooLong.is at c.in-Err-TooLong.field-0-is)), rw (refused_as _ _ TooLong c.in-Err-TooLong.is (rw c.in-Err-TooLong.is at c.in-Err-TooLong.field-0-is)))
 
-pub returns-in-NotUtf8 : goal.returns-in-NotUtf8
-returns-in-NotUtf8 c = (rw c.in-NotUtf8.is, rw c.in-NotUtf8.is, rw c.in-NotUtf8.is)
+pub returns-in-Err-NotUtf8 : goal.returns-in-Err-NotUtf8
+returns-in-Err-NotUtf8 c = (rw (refused_as _ _ (NotUtf8 _) c.in-Err-NotUtf8.is (rw c.in-Err-NotUtf8.is at c.in-Err-NotUtf8.field-0-is)), rw (refused_as _ _ (NotUtf8 _) c.in-Err-NotUtf8.is (rw c.in-Err-NotUtf8.is at c.in-Err-NotUtf8.field-0-is)), rw (refused_as _ _ (NotUtf8 _) c.in-Err-NotUtf8.is (rw c.in-Err-NotUtf8.is at c.in-Err-NotUtf8.field-0-is)))
 
-pub returns-in-NoExtent : goal.returns-in-NoExtent
-returns-in-NoExtent c = (rw c.in-NoExtent.is, rw c.in-NoExtent.is, rw c.in-NoExtent.is)
+pub returns-in-Err-NoExtent : goal.returns-in-Err-NoExtent
+returns-in-Err-NoExtent c = (rw (refused_as _ _ NoExtent c.in-Err-NoExtent.is (rw c.in-Err-NoExtent.is at c.in-Err-NoExtent.field-0-is)), rw (refused_as _ _ NoExtent c.in-Err-NoExtent.is (rw c.in-Err-NoExtent.is at c.in-Err-NoExtent.field-0-is)), rw (refused_as _ _ NoExtent c.in-Err-NoExtent.is (rw c.in-Err-NoExtent.is at c.in-Err-NoExtent.field-0-is)))
 
-pub returns-in-NoCoordinate : goal.returns-in-NoCoordinate
-returns-in-NoCoordinate c = (rw c.in-NoCoordinate.is, rw c.in-NoCoordinate.is, rw c.in-NoCoordinate.is)
+pub returns-in-Err-NoCoordinate : goal.returns-in-Err-NoCoordinate
+returns-in-Err-NoCoordinate c = (rw (refused_as _ _ NoCoordinate c.in-Err-NoCoordinate.is (rw c.in-Err-NoCoordinate.is at c.in-Err-NoCoordinate.field-0-is)), rw (refused_as _ _ NoCoordinate c.in-Err-NoCoordinate.is (rw c.in-Err-NoCoordinate.is at c.in-Err-NoCoordinate.field-0-is)), rw (refused_as _ _ NoCoordinate c.in-Err-NoCoordinate.is (rw c.in-Err-NoCoordinate.is at c.in-Err-NoCoordinate.field-0-is)))

@@ -3,7 +3,6 @@
 use Rattle.digits.proofs.Digits.{decimal_hit, decimal_stop, run_end}
 use Rattle.digits.proofs.DecimalRuns.{run_grows, run_holds, run_value_more, run_value_stop, run_value_end}
 use Rattle.laws.proofs.Choice.{within_is}
-use Prim.Native.Nat.{◌-◌}
 use mathlib.Core.Path.{refl, sym, ◌∙◌}
 use native.Mathlib.Omega.{arith}
 use borrow.Author.Rules.{rules}
@@ -16,33 +15,33 @@ pub overflow_mul-v : goal.overflow_mul-v
 overflow_mul-v c =
     let l = c.loop-i-test.true in
     let p = c.requires.0 in
-    omega (arith, run_holds _ _ _ c.loop-i.invariant.2 (sym c.if-within.true ∙ c.within.ensures) (omega arith))
+    omega (arith, run_holds _ _ _ c.loop-i.invariant.2 (sym c.if-between.true ∙ c.between.ensures) (omega arith))
 
 pub overflow_sub-v : goal.overflow_sub-v
-overflow_sub-v c = (within_is _ _ _ (sym c.within.ensures ∙ c.if-within.true)).0
+overflow_sub-v c = (within_is _ _ _ (sym c.between.ensures ∙ c.if-between.true)).0
 
 pub overflow_cast-v : goal.overflow_cast-v
-overflow_cast-v c = let r = within_is _ _ _ (sym c.within.ensures ∙ c.if-within.true) in search rules
+overflow_cast-v c = let r = within_is _ _ _ (sym c.between.ensures ∙ c.if-between.true) in search rules
 
 pub overflow_add-v : goal.overflow_add-v
 overflow_add-v c =
     let l = c.loop-i-test.true in
     let p = c.requires.0 in
-    omega (arith, run_holds _ _ _ c.loop-i.invariant.2 (sym c.if-within.true ∙ c.within.ensures) (omega arith))
+    omega (arith, run_holds _ _ _ c.loop-i.invariant.2 (sym c.if-between.true ∙ c.between.ensures) (omega arith))
 
 pub loop-i-preserved : goal.loop-i-preserved
 loop-i-preserved c =
     let inv = c.loop-i.invariant in
-    let w = sym c.if-within.true ∙ c.within.ensures in (
+    let w = sym c.if-between.true ∙ c.between.ensures in (
       inv.0 ∙ decimal_hit _ _ c.loop-i-test.true w,
       inv.1 ∙ run_value_more _ _ _ c.loop-i-test.true w,
       run_grows _ _ _ inv.2 w,
     )
 
-pub returns-else-within : goal.returns-else-within
-returns-else-within c =
+pub returns-else-between : goal.returns-else-between
+returns-else-between c =
     let inv = c.loop-i.invariant in
-    let w = sym c.if-within.false ∙ c.within.ensures in (
+    let w = sym c.if-between.false ∙ c.between.ensures in (
       sym (inv.0 ∙ decimal_stop _ _ c.loop-i-test.true w),
       sym (inv.1 ∙ run_value_stop _ _ _ c.loop-i-test.true w),
       inv.2,

@@ -1,7 +1,6 @@
 -- v is the value of the digits passed and at most 2^63, so the digits from each place on after v have the value of all. More digits make no
 -- smaller value, so the first product past 2^63 decides.
 use Rattle.digits.proofs.Integers.{value_more, value_end, digit_fits, product_fits, product_over, fit_large, fit_fits}
-use Prim.Native.Nat.{◌-◌}
 use mathlib.Core.Path.{refl, ◌∙◌}
 use native.Mathlib.Omega.{arith}
 use Rattle.digits.proofs.magnitude_at.Goals as goal

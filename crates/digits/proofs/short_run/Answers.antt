@@ -3,7 +3,6 @@
 use Rattle.digits.proofs.Digits.{run_hit, run_stop, run_end}
 use Rattle.digits.proofs.Integers.{value_more, value_end}
 use Rattle.digits.proofs.RadixRuns.{sixteen_some, radix_grows, radix_holds}
-use Prim.Native.Nat.{◌-◌}
 use mathlib.Core.Path.{refl, sym, ◌∙◌}
 use native.Mathlib.Omega.{arith}
 use Rattle.digits.proofs.short_run.Goals as goal

@@ -10,20 +10,20 @@ pub returns-then-m-top_of : goal.returns-then-m-top_of
 returns-then-m-top_of c =
     whole_small _ _ _ _
     (sym c.if-unsigned.true ∙ c.unsigned.ensures)
-    _ _ (sym c.in-Fits.is ∙ c.magnitude_at.ensures)
+    _ _ (sym c.in-Some.is ∙ c.magnitude_at.ensures)
     (rw c.top_of.ensures at c.if-m-top_of.true) c.small.ensures
 
 pub returns-else-m-top_of : goal.returns-else-m-top_of
 returns-else-m-top_of c =
     whole_big _ _ _ _
     (sym c.if-unsigned.true ∙ c.unsigned.ensures)
-    _ (sym c.in-Fits.is ∙ c.magnitude_at.ensures)
+    _ (sym c.in-Some.is ∙ c.magnitude_at.ensures)
     (rw c.top_of.ensures at c.if-m-top_of.false)
 
-pub returns-in-Large : goal.returns-in-Large
-returns-in-Large c =
+pub returns-in-None : goal.returns-in-None
+returns-in-None c =
     whole_large _ _ _ _ (sym c.if-unsigned.true ∙ c.unsigned.ensures)
-    (sym c.in-Large.is ∙ c.magnitude_at.ensures)
+    (sym c.in-None.is ∙ c.magnitude_at.ensures)
 
 pub returns-else-unsigned : goal.returns-else-unsigned
 returns-else-unsigned c = whole_no _ _ _ _ (sym c.if-unsigned.false ∙ c.unsigned.ensures)

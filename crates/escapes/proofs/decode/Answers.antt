@@ -1,6 +1,5 @@
 -- What was given so far lies at the start of the memory, and with what is still to come it makes up the whole text: first the run, then
 -- the element after it.
-use Prim.Native.Nat.{◌-◌}
 use native.Mathlib.Omega.{arith}
 use Rattle.escapes.proofs.Laying.{laying_start, laying_length, laying_le, laying_end, laying_room, laying_fits, laying_on}
 use Rattle.escapes.proofs.PlainRuns.{run_ends, run_room, laying_run}

@@ -1,21 +1,5 @@
--- The invariant: what was copied so far is the front of the bytes. The measure is what is left of them.
-use Prim.Native.Nat.{◌-◌}
-use mathlib.Core.Path.{refl}
-use lib.ListN.{length-set}
-use native.Mathlib.Omega.{arith}
-use Rattle.escapes.proofs.Laying.{copied_next, copied_end}
+-- The front of the memory is the run, and the rest is as it was.
 use Rattle.escapes.proofs.put_run.Goals as goal
 
-pub loop-i-init : goal.loop-i-init
-loop-i-init c = (omega arith, refl, refl)
-
-pub loop-i-preserved : goal.loop-i-preserved
-loop-i-preserved c = (
-  omega arith,
-  simp length-set (omega arith),
-  copied_next c.args.run.now
-      c.args.free.now c.loop-i.free c.loop-i.i (omega arith) (omega arith) c.loop-i.invariant.2,
-)
-
 pub returns : goal.returns
-returns c = copied_end c.args.run.now c.args.free.now _ _ c.loop-i-test.false c.loop-i.invariant.2
+returns c = rw c.copy_from_slice.ensures.after

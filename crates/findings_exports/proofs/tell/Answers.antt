@@ -2,8 +2,8 @@
 use Rattle.findings_exports.proofs.Told.{answer_told}
 use Rattle.findings_exports.proofs.tell.Goals as goal
 
-pub returns-in-Found : goal.returns-in-Found
-returns-in-Found c = answer_told _ c.in-Found.is c.put_values.ensures
+pub returns-in-Ok : goal.returns-in-Ok
+returns-in-Ok c = answer_told _ c.in-Ok.is c.put_values.ensures
 
-pub returns-in-TooFew : goal.returns-in-TooFew
-returns-in-TooFew c = answer_told _ c.in-TooFew.is c.put_values-in-TooFew.ensures
+pub returns-in-Err : goal.returns-in-Err
+returns-in-Err c = answer_told _ c.in-Err.is c.put_values-in-Err.ensures

@@ -6,19 +6,19 @@ pub returns : goal.returns
 unfolding told_of
 returns c = (
   rw (
-    c.within-4.ensures.0,
+    c.or_end-4.ensures.0,
     c.word-7.ensures,
-    c.within-3.ensures.0,
+    c.or_end-3.ensures.0,
     c.word-6.ensures,
-    c.within-2.ensures.0,
+    c.or_end-2.ensures.0,
     c.word-5.ensures,
-    c.within.ensures.0,
+    c.or_end.ensures.0,
     c.word-4.ensures,
     c.word-3.ensures,
     c.word-2.ensures,
     c.word.ensures,
   ),
-  c.within.ensures.1,
-  c.within-2.ensures.1,
-  c.within-3.ensures.1,
+  c.or_end.ensures.1,
+  c.or_end-2.ensures.1,
+  c.or_end-3.ensures.1,
 )

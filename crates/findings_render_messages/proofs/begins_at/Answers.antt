@@ -8,5 +8,5 @@ pub returns-then-start : goal.returns-then-start
 returns-then-start c =
     rw c.if-start.true (c.begins_with.ensures ∙ ap (begins c.args.key.now) (part_rest c.args.t.now c.args.at))
 
-pub returns : goal.returns
-returns c = rw c.if-start.false
+pub returns-else-start : goal.returns-else-start
+returns-else-start c = rw c.if-start.false

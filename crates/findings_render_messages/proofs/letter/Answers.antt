@@ -1,5 +1,6 @@
 -- By the tests.
-use borrow.Author.Tests.{lt-ltb, le-ltb, eq-eqb, ne_eqb}
+use borrow.Author.Tests.{lt-ltb, le-ltb, ne_eqb}
+use native.Mathlib.Omega.{arith}
 use Rattle.findings_render_messages.specs.Messages.{letter_of}
 use Rattle.findings_render_messages.proofs.letter.Goals as goal
 
@@ -7,31 +8,24 @@ pub returns-then-t-gt99 : goal.returns-then-t-gt99
 unfolding letter_of
 returns-then-t-gt99 c = rw (lt-ltb _ _ c.if-t-gt99.true)
 
-pub returns-then-t-eq-ERROR : goal.returns-then-t-eq-ERROR
+pub returns-in-2 : goal.returns-in-2
 unfolding letter_of
-returns-then-t-eq-ERROR c = rw (le-ltb _ _ c.if-t-gt99.false, eq-eqb _ _ c.if-t-eq-ERROR.true)
+returns-in-2 c = rw (le-ltb _ _ c.if-t-gt99.false, c.in-2.is)
 
-pub returns-then-t-eq-WARNING : goal.returns-then-t-eq-WARNING
+pub returns-in-1 : goal.returns-in-1
 unfolding letter_of
-returns-then-t-eq-WARNING c =
-    rw (le-ltb _ _ c.if-t-gt99.false, ne_eqb _ _ c.if-t-eq-ERROR.false, eq-eqb _ _ c.if-t-eq-WARNING.true)
+returns-in-1 c = rw (le-ltb _ _ c.if-t-gt99.false, c.in-1.is)
 
-pub returns-then-t-eq-WARNING_AS_ERROR : goal.returns-then-t-eq-WARNING_AS_ERROR
+pub returns-in-3 : goal.returns-in-3
 unfolding letter_of
-returns-then-t-eq-WARNING_AS_ERROR c =
-    rw (
+returns-in-3 c = rw (le-ltb _ _ c.if-t-gt99.false, c.in-3.is)
+
+pub returns-in_default-2 : goal.returns-in_default-2
+unfolding letter_of
+returns-in_default-2 c =
+    simp (
       le-ltb _ _ c.if-t-gt99.false,
-      ne_eqb _ _ c.if-t-eq-ERROR.false,
-      ne_eqb _ _ c.if-t-eq-WARNING.false,
-      eq-eqb _ _ c.if-t-eq-WARNING_AS_ERROR.true,
-    )
-
-pub returns : goal.returns
-unfolding letter_of
-returns c =
-    rw (
-      le-ltb _ _ c.if-t-gt99.false,
-      ne_eqb _ _ c.if-t-eq-ERROR.false,
-      ne_eqb _ _ c.if-t-eq-WARNING.false,
-      ne_eqb _ _ c.if-t-eq-WARNING_AS_ERROR.false,
+      ne_eqb c.args.t.severity 2 (λ h. omega arith),
+      ne_eqb c.args.t.severity 1 (λ h. omega arith),
+      ne_eqb c.args.t.severity 3 (λ h. omega arith),
     )

@@ -1,12 +1,8 @@
-use Prim.Native.Nat.{◌-◌, ◌≤◌}
 use mathlib.Core.Bool.{true}
 use mathlib.Core.Path.{◌≡◌}
-use lib.ListN.{length, drop}
+use lib.ListN.{drop}
 use Rattle.findings_render_messages.specs.Messages.{behind}
 use Rattle.findings_render_messages.proofs.text_start.Given as goal
 
 abbrev pub invariant-loop-i : goal.invariant-loop-i
-invariant-loop-i l = (l.i ≤ length l.t) × (behind l.key l.start (drop l.i l.t) ≡ behind l.key true l.t)
-
-abbrev pub decreases-loop-i : goal.decreases-loop-i
-decreases-loop-i l = length l.t - l.i
+invariant-loop-i l = behind l.key l.start (drop l.i l.t) ≡ behind l.key true l.t

@@ -1,11 +1,12 @@
 -- The call below fixes its answer and the memory; the value is laid after it.
+use mathlib.Core.Path.{◌∙◌}
 use Rattle.items_files_exports.proofs.Whole.{told}
 use Rattle.items_files_exports.proofs.mihadrena_items_write.Goals as goal
 
 pub returns : goal.returns
 returns c = let all =
     told _ _ c.write.ensures
-    c.tell_write-told.ensures.0 c.tell_write-told.ensures.1 c.put_value.ensures in record {
+    (c.give.ensures.number ∙ c.tell_write.ensures.0) c.tell_write.ensures.1 c.give.ensures.value in record {
       value = all.0;
       values_after = all.1.0;
       out_after = all.1.1;

@@ -1,6 +1,6 @@
 -- What was counted so far and what is still to be written make up the whole text; it stops as soon as the limit is passed.
 use native.Mathlib.Omega.{arith}
-use Prim.Native.Nat.{◌+◌, ◌-◌, ◌*◌}
+use Prim.Native.Nat.{◌+◌, ◌*◌}
 use mathlib.Core.Path.{ap}
 use mathlib.Core.Bool.{false}
 use lib.ListN.{length}

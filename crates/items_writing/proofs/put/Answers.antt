@@ -1,6 +1,5 @@
 -- What was laid so far is the start of the text, and the rest of it is still to be written.
 use native.Mathlib.Omega.{arith}
-use Prim.Native.Nat.{◌-◌}
 use mathlib.Core.Bool.{true}
 use Rattle.items_writing.proofs.RecordLoops.{put_start, put_length, put_end, put_room, put_part, put_on, turn_right}
 use Rattle.items_writing.proofs.put.Goals as goal

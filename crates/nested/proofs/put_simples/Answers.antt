@@ -13,7 +13,7 @@ loop-at-init c = (
 )
 
 pub simple_at-kind-requires : goal.simple_at-kind-requires
-simple_at-kind-requires c = omega (arith, c.least-limit.ensures.0, c.requires.0)
+simple_at-kind-requires c = omega (arith, c.min-limit.ensures, c.requires.0)
 
 pub shape_of-nodes-then-kind-eq-NO_SIMPLE : goal.shape_of-nodes-then-kind-eq-NO_SIMPLE
 shape_of-nodes-then-kind-eq-NO_SIMPLE c = c.loop-at.invariant.0
@@ -23,18 +23,18 @@ returns-then-kind-eq-NO_SIMPLE c = c.loop-at.invariant.2
 
 pub lay-requires : goal.lay-requires
 lay-requires c =
-    omega (arith, c.least-limit.ensures.1, c.loop-at.invariant.0, c.loop-at.invariant.1, c.requires.2)
+    omega (arith, c.min-limit.ensures, c.loop-at.invariant.0, c.loop-at.invariant.1, c.requires.2)
 
 pub overflow_add-v : goal.overflow_add-v
 overflow_add-v c =
-    omega (arith, c.loop-at.invariant.1, c.requires.2, c.least-limit.ensures.0)
+    omega (arith, c.loop-at.invariant.1, c.requires.2, c.min-limit.ensures)
 
 pub loop-at-preserved : goal.loop-at-preserved
 loop-at-preserved c = (
   c.lay.auto.nodes ∙ c.loop-at.invariant.0,
   omega (arith, c.loop-at.invariant.1),
   run_more c.args.records.now c.args.from c.loop-at.at c.simple_at-kind.result
-      (omega (arith, c.loop-at-test.true, c.least-limit.ensures.0, c.requires.0)) (c.simple_at-kind.ensures
+      (omega (arith, c.loop-at-test.true, c.min-limit.ensures, c.requires.0)) (c.simple_at-kind.ensures
       c.if-kind-eq-NO_SIMPLE.false) c.args.w c.loop-at.v c.args.nodes.now c.loop-at.nodes c.lay.new.nodes
       c.loop-at.invariant.0 c.loop-at.invariant.2 (omega (arith, c.loop-at.invariant.1, c.loop-at.invariant.2.simples.count)) c.lay.ensures,
 )

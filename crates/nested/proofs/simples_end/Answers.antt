@@ -1,5 +1,8 @@
 -- The invariant: what lies behind is a run of simple data.
+use Prim.Native.Nat.{ℕ}
 use native.Mathlib.Omega.{arith}
+use mathlib.Core.Path.{◌≡◌, subst}
+use Rattle.nested.specs.Said.{Simples}
 use Rattle.nested.proofs.Runs.{simples_none, simples_more}
 use Rattle.nested.proofs.simples_end.Goals as goal
 
@@ -19,4 +22,6 @@ loop-at-preserved c =
     q.0 (omega (arith, c.loop-at-test.true, c.requires.0)) q.1 c.loop-at.invariant
 
 pub returns : goal.returns
-returns c = c.loop-at.invariant
+returns c =
+    let e : c.loop-at.at ≡ c.args.count = omega (arith, c.requires.1) in
+    subst (λ (k : ℕ). Simples c.args.records.now c.args.from k) e c.loop-at.invariant

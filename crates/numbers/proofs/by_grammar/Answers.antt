@@ -4,12 +4,12 @@ use Rattle.numbers.proofs.Call.{not_utf8_holds, served}
 use mathlib.Core.Path.{sym, ap, ◌∙◌}
 use Rattle.numbers.proofs.by_grammar.Goals as goal
 
-pub returns-in-Bad : goal.returns-in-Bad
-returns-in-Bad c =
-    sym (not_utf8_holds _ c.requires _ (sym c.first_bad.ensures ∙ c.in-Bad.is))
+pub returns-in-Some : goal.returns-in-Some
+returns-in-Some c =
+    sym (not_utf8_holds _ c.requires _ (sym c.first_bad.ensures ∙ c.in-Some.is))
 
-pub returns-in-Good : goal.returns-in-Good
-returns-in-Good c =
+pub returns-in-None : goal.returns-in-None
+returns-in-None c =
     c.serve.ensures
     ∙ ap given c.parse_number.ensures
-    ∙ sym (served _ c.requires (sym c.first_bad.ensures ∙ c.in-Good.is))
+    ∙ sym (served _ c.requires (sym c.first_bad.ensures ∙ c.in-None.is))

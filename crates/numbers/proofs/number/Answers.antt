@@ -7,6 +7,6 @@ use Rattle.numbers.proofs.number.Goals as goal
 pub returns-then-t-gt-LIMIT : goal.returns-then-t-gt-LIMIT
 returns-then-t-gt-LIMIT c = sym (too_long _ c.if-t-gt-LIMIT.true)
 
-pub returns-in-SomeParts : goal.returns-in-SomeParts
-returns-in-SomeParts c =
-    brief_answer _ c.if-t-gt-LIMIT.false _ (rw c.in-SomeParts.is at c.brief_parts.ensures)
+pub returns-in-Some : goal.returns-in-Some
+returns-in-Some c =
+    brief_answer _ c.if-t-gt-LIMIT.false _ (rw c.in-Some.is at c.brief_parts.ensures)

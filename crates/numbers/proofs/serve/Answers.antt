@@ -3,5 +3,5 @@ use Rattle.numbers.specs.Call.{given}
 use mathlib.Core.Path.{sym, ap}
 use Rattle.numbers.proofs.serve.Goals as goal
 
-pub returns-in-Is : goal.returns-in-Is
-returns-in-Is c = sym (ap given c.in-Is.is)
+pub returns-in-Ok : goal.returns-in-Ok
+returns-in-Ok c = sym (ap given c.in-Ok.is)

@@ -1,19 +1,6 @@
--- The prefix gives the radix and the place where the number starts.
-use Rattle.numbers.proofs.Judged.{prefix_le}
-use Rattle.numbers_standard.proofs.Call.{parse_ten, parse_radix}
-use Prim.Native.Nat.{◌≤◌}
-use native.Mathlib.Omega.{arith}
+-- The parts are judged.
+use Rattle.numbers_standard.proofs.Call.{parse_parts}
 use Rattle.numbers_standard.proofs.parse_standard.Goals as goal
 
-pub complex_at-requires-else-radix-eq-NO_RADIX : goal.complex_at-requires-else-radix-eq-NO_RADIX
-complex_at-requires-else-radix-eq-NO_RADIX c = let h : c.prefix-radix.result ≤ 16 = rw c.prefix-radix.ensures (prefix_le _) in omega arith
-
-pub returns-then-radix-eq-NO_RADIX : goal.returns-then-radix-eq-NO_RADIX
-returns-then-radix-eq-NO_RADIX c =
-    parse_ten _ _ _ _ c.prefix-radix.ensures c.if-radix-eq-NO_RADIX.true c.complex_at.ensures
-    c.judge.ensures
-
-pub returns-else-radix-eq-NO_RADIX : goal.returns-else-radix-eq-NO_RADIX
-returns-else-radix-eq-NO_RADIX c =
-    parse_radix _ _ _ _ c.prefix-radix.ensures c.if-radix-eq-NO_RADIX.false c.complex_at-else-radix-eq-NO_RADIX.ensures
-    c.judge-else-radix-eq-NO_RADIX.ensures
+pub returns : goal.returns
+returns c = parse_parts _ _ _ c.number_parts.ensures c.judge.ensures

@@ -1,4 +1,5 @@
 -- Record, text and words are the definition's for a string with an escape that ends with the text (Ending: item-given).
+use Rattle.std.proofs.Common.{Some}
 use native.Mathlib.Omega.{arith}
 use mathlib.Core.Path.{◌≡◌, refl, sym, ap, subst}
 use mathlib.Core.Bool.{true}
@@ -9,7 +10,6 @@ use borrow.Author.Tests.{not-false}
 use Rattle.laws.proofs.Choice.{by_bool}
 use Rattle.items.specs.Meaning.{escaped}
 use Rattle.pieces_spots.specs.declared.PieceSpot.{PieceSpot}
-use Rattle.pieces_quick.specs.declared.Gift.TheVariants.{Of}
 use Rattle.pieces_quick.specs.Gives.{decoded_means, Copying, Copied}
 use Rattle.pieces_quick.proofs.Giving.{decoded_ends}
 use Rattle.pieces_last.proofs.Lasts.{decoded_lasts}
@@ -50,7 +50,7 @@ returns c =
     (c.is_escaped.ensures (not-false _ c.if-not-is_escaped.false-raw)) in
     let decoded = c.decoded_record-r in
     let copied = subst (λ (x : PieceSpot). Copied x (decoded_means (take x.len c.args.buf.now)) w.depth (take x.len c.args.buf.now)
-    c.args.text.now decoded.new.text (Of decoded.result)) c.requires.1 decoded.ensures in
+    c.args.text.now decoded.new.text (Some decoded.result)) c.requires.1 decoded.ensures in
     item_given_lem w h.closing c.args.buf.now c.args.text.now h.full h.room (decoded_means raw)
     (decoded_lasts w.stage w.which w.detail w.start raw (decoded_means raw) string.0
     (decoded_ends w.stage w.which w.detail 0 w.start raw string.0 string.1 string.2))

@@ -1,11 +1,11 @@
 -- Record, text and words are the definition's for an item that ends with the text (Ending: item-given).
+use Rattle.std.proofs.Common.{Option, Some}
+use Rattle.items.specs.declared.Record.{Record}
 use native.Mathlib.Omega.{arith}
 use mathlib.Core.Path.{sym, ap, ◌∙◌, subst}
 use lib.ListN.{take}
 use lib.Seq.{length-take-le}
 use Rattle.pieces_spots.specs.declared.PieceSpot.{PieceSpot}
-use Rattle.pieces_quick.specs.declared.Gift.{Gift}
-use Rattle.pieces_quick.specs.declared.Gift.TheVariants.{Of}
 use Rattle.pieces_quick.specs.Gives.{Copying, Copied}
 use Rattle.pieces_last.proofs.Ending.{item_given_lem}
 use Rattle.pieces_last.proofs.give_last.Goals as goal
@@ -30,20 +30,20 @@ copied-requires c =
       fine = c.requires.2.fine;
     })
 
-pub returns-in-Of : goal.returns-in-Of
-returns-in-Of c =
+pub returns-in-Some : goal.returns-in-Some
+returns-in-Some c =
     let w = c.args.w in
     let h = c.requires.0 in
     let kept = sym c.skips.ensures ∙ c.if-skips.false in
     let copied = c.copied in
-    let gift = subst (λ (q : Gift). Copied c.args.s c.args.m w.depth (take c.args.s.len c.args.buf.now) c.args.text.now
-    copied.new.text q) c.in-Of.is copied.ensures in
+    let gift = subst (λ (q : Option Record). Copied c.args.s c.args.m w.depth (take c.args.s.len c.args.buf.now) c.args.text.now
+    copied.new.text q) c.in-Some.is copied.ensures in
     let k = subst (λ (x : PieceSpot). Copied x c.args.m w.depth (take x.len c.args.buf.now) c.args.text.now copied.new.text
-    (Of c.in-Of.r)) c.requires.1 gift in
+    (Some c.in-Some.r)) c.requires.1 gift in
     item_given_lem w h.closing c.args.buf.now c.args.text.now h.full h.room c.args.m c.requires.2 (h.closing.ready.known.held h.item).0 kept _ (omega arith) _ _ k
 
-pub returns-in-Not : goal.returns-in-Not
-returns-in-Not c =
+pub returns-in-None : goal.returns-in-None
+returns-in-None c =
     let copied = c.copied in
-    subst (λ (q : Gift). Copied c.args.s c.args.m c.args.w.depth (take c.args.s.len c.args.buf.now) c.args.text.now
-    copied.new.text q) c.in-Not.is copied.ensures
+    subst (λ (q : Option Record). Copied c.args.s c.args.m c.args.w.depth (take c.args.s.len c.args.buf.now) c.args.text.now
+    copied.new.text q) c.in-None.is copied.ensures

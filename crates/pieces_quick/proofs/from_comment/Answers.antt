@@ -2,7 +2,8 @@
 use native.Mathlib.Omega.{arith}
 use mathlib.Core.Path.{refl, subst}
 use lib.ListN.{get_or}
-use Rattle.pieces_quick.specs.declared.Offer.{Offer}
+use Rattle.std.proofs.Common.{Option}
+use Rattle.pieces_quick.specs.declared.QuickItem.{QuickItem}
 use Rattle.pieces_quick.specs.Gives.{Finished}
 use Rattle.pieces_quick.proofs.Answering.{before_byte, item_feeds}
 use Rattle.pieces_quick.proofs.from_comment.Goals as goal
@@ -16,19 +17,19 @@ give_comment-requires c = (
   c.requires.3.detail,
 )
 
-pub returns-in-Given : goal.returns-in-Given
-returns-in-Given c =
+pub returns-in-Some : goal.returns-in-Some
+returns-in-Some c =
     item_feeds c.args.w c.requires.1.left c.requires.1.ready c.args.s c.args.buf.now c.args.text.now c.args.piece.now c.requires.0 c.requires.1.sound
-    c.requires.3.inside _ _ _ _ _
-    (subst (λ (q : Offer). Finished c.args.w c.args.s (get_or c.args.piece.now c.args.s.i 0) c.args.buf.now
-    c.give_comment.new.buf c.args.text.now c.args.text.now q) c.in-Given.is
+    c.requires.3.inside _ _ _
+    (subst (λ (q : Option QuickItem). Finished c.args.w c.args.s (get_or c.args.piece.now c.args.s.i 0) c.args.buf.now
+    c.give_comment.new.buf c.args.text.now c.args.text.now q) c.in-Some.is
     c.give_comment.ensures)
 
-pub returns-in-Not : goal.returns-in-Not
-returns-in-Not c =
-    let same = subst (λ (q : Offer). Finished c.args.w c.args.s
+pub returns-in-None : goal.returns-in-None
+returns-in-None c =
+    let same = subst (λ (q : Option QuickItem). Finished c.args.w c.args.s
     (get_or c.args.piece.now c.args.s.i 0)
     c.args.buf.now c.give_comment.new.buf
-    c.args.text.now c.args.text.now q) c.in-Not.is
+    c.args.text.now c.args.text.now q) c.in-None.is
     c.give_comment.ensures in
     (refl, same.0, refl)

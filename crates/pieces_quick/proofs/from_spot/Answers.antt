@@ -2,7 +2,8 @@
 use native.Mathlib.Omega.{arith}
 use mathlib.Core.Path.{refl, subst}
 use lib.ListN.{get_or}
-use Rattle.pieces_quick.specs.declared.Offer.{Offer}
+use Rattle.std.proofs.Common.{Option}
+use Rattle.pieces_quick.specs.declared.QuickItem.{QuickItem}
 use Rattle.pieces_quick.specs.Gives.{Finished}
 use Rattle.pieces_quick.proofs.Answering.{more_feeds, before_byte, item_feeds}
 use Rattle.pieces_quick.proofs.from_spot.Goals as goal
@@ -16,19 +17,19 @@ give_item-requires c =
     before_byte c.args.w c.requires.1.left c.requires.1.ready c.args.s c.args.buf.now c.args.text.now c.args.piece.now c.requires.0
     c.requires.1.sound (omega arith) (omega arith)
 
-pub returns-in-Given : goal.returns-in-Given
-returns-in-Given c =
+pub returns-in-Some : goal.returns-in-Some
+returns-in-Some c =
     let s = c.args.s in
     item_feeds c.args.w c.requires.1.left c.requires.1.ready s c.args.buf.now c.args.text.now c.args.piece.now c.requires.0 c.requires.1.sound
-    (omega (arith, c.if-piece-i.false)) _ _ _ _ _
-    (subst (λ (q : Offer). Finished c.args.w s (get_or c.args.piece.now s.i 0) c.args.buf.now c.give_item.new.buf
-    c.args.text.now c.give_item.new.text q) c.in-Given.is c.give_item.ensures)
+    (omega (arith, c.if-piece-i.false)) _ _ _
+    (subst (λ (q : Option QuickItem). Finished c.args.w s (get_or c.args.piece.now s.i 0) c.args.buf.now c.give_item.new.buf
+    c.args.text.now c.give_item.new.text q) c.in-Some.is c.give_item.ensures)
 
-pub returns-in-Not : goal.returns-in-Not
-returns-in-Not c =
+pub returns-in-None : goal.returns-in-None
+returns-in-None c =
     let s = c.args.s in
-    let same = subst (λ (q : Offer). Finished c.args.w s (get_or c.args.piece.now s.i 0) c.args.buf.now
+    let same = subst (λ (q : Option QuickItem). Finished c.args.w s (get_or c.args.piece.now s.i 0) c.args.buf.now
     c.give_item.new.buf c.args.text.now
-    c.give_item.new.text q) c.in-Not.is
+    c.give_item.new.text q) c.in-None.is
     c.give_item.ensures in
     (refl, same.0, same.1)

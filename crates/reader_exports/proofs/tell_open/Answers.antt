@@ -1,20 +1,22 @@
 -- An arm for each answer: only the position of a source that is open is written.
-use mathlib.Core.Path.{ap}
+use Rattle.std.proofs.Common.{Err}
+use mathlib.Core.Path.{ap, ◌∙◌}
+use Rattle.lexer.specs.declared.OpenError.{OpenError}
 use Rattle.refusal.specs.Refusals as refusal
 use Rattle.lexer.specs.Opening.{opening_of}
 use Rattle.items.specs.Whole.{limit}
 use Rattle.reader_exports.proofs.Left.{open_told, refused-told}
 use Rattle.reader_exports.proofs.tell_open.Goals as goal
 
-pub returns-in-Opened : goal.returns-in-Opened
-returns-in-Opened c = open_told _ _ _ (ap opening_of c.in-Opened.is)
+pub returns-in-Ok : goal.returns-in-Ok
+returns-in-Ok c = open_told _ _ _ (ap opening_of c.in-Ok.is)
     c.put_position.ensures c.put_values.ensures
 
-pub returns-in-NoMode : goal.returns-in-NoMode
-returns-in-NoMode c = refused-told _ _ refusal.no_such_mode _ (ap opening_of c.in-NoMode.is) c.put_values-in-NoMode.ensures
+pub returns-in-Err-NoMode : goal.returns-in-Err-NoMode
+returns-in-Err-NoMode c = refused-told _ _ refusal.no_such_mode _ (ap opening_of c.in-Err-NoMode.is ∙ ap (λ (e : OpenError). opening_of (Err e)) (rw c.in-Err-NoMode.is at c.in-Err-NoMode.field-0-is)) c.put_values-in-Err-NoMode.ensures
 
-pub returns-in-TooLong : goal.returns-in-TooLong
-returns-in-TooLong c = refused-told _ _ refusal.over_long limit (ap opening_of c.in-TooLong.is) c.put_values-in-TooLong.ensures
+pub returns-in-Err-TooLong : goal.returns-in-Err-TooLong
+returns-in-Err-TooLong c = refused-told _ _ refusal.over_long limit (ap opening_of c.in-Err-TooLong.is ∙ ap (λ (e : OpenError). opening_of (Err e)) (rw c.in-Err-TooLong.is at c.in-Err-TooLong.field-0-is)) c.put_values-in-Err-TooLong.ensures
 
-pub returns-in-NotUtf8 : goal.returns-in-NotUtf8
-returns-in-NotUtf8 c = refused-told _ _ refusal.not_utf8 _ (ap opening_of c.in-NotUtf8.is) c.put_values-in-NotUtf8.ensures
+pub returns-in-Err-NotUtf8 : goal.returns-in-Err-NotUtf8
+returns-in-Err-NotUtf8 c = refused-told _ _ refusal.not_utf8 _ (ap opening_of c.in-Err-NotUtf8.is ∙ ap (λ (e : OpenError). opening_of (Err e)) (rw c.in-Err-NotUtf8.is at c.in-Err-NotUtf8.field-0-is)) c.put_values-in-Err-NotUtf8.ensures

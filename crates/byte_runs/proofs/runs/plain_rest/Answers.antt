@@ -5,17 +5,17 @@ use Rattle.byte_runs.specs.Runs.{plain, block, half, quarter}
 use Rattle.byte_runs.proofs.Blocks.{run_to, run_before}
 use Rattle.byte_runs.proofs.runs.plain_rest.Goals as goal
 
-pub plain_half-i-requires : goal.plain_half-i-requires
-plain_half-i-requires c =
+pub plain_part-i-requires : goal.plain_part-i-requires
+plain_part-i-requires c =
     let a = c.args in (
       omega arith,
       (omega arith, run_before (plain a.a a.b) a.t.now (a.at - block) a.at half (omega arith) (omega arith)),
     )
 
-pub plain_quarter-j-requires : goal.plain_quarter-j-requires
-plain_quarter-j-requires c =
+pub plain_part-j-requires : goal.plain_part-j-requires
+plain_part-j-requires c =
     let a = c.args in
-    let i = c.plain_half-i.result in
+    let i = c.plain_part-i.result in
     let e = run_to (plain a.a a.b) a.t.now (a.at - block) a.at (omega arith) (omega arith) in (
       omega arith,
       (omega arith, run_before (plain a.a a.b) a.t.now (a.at - block) i quarter (omega arith) (omega (arith, e))),

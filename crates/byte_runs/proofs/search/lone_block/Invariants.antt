@@ -1,12 +1,8 @@
-use Prim.Native.Nat.{◌+◌, ◌-◌, ◌≤◌}
+use Prim.Native.Nat.{◌+◌}
 use mathlib.Core.Path.{◌≡◌}
 use mathlib.Core.Bool.{true}
-use Rattle.byte_runs.specs.Runs.{block}
 use Rattle.byte_runs.specs.Search.{Lone}
 use Rattle.byte_runs.proofs.search.lone_block.Given as goal
 
 abbrev pub invariant-loop-j : goal.invariant-loop-j
-invariant-loop-j l = (l.j ≤ block) × (l.all ≡ true → Lone l.t l.gap l.x l.y l.at (l.at + l.j))
-
-abbrev pub decreases-loop-j : goal.decreases-loop-j
-decreases-loop-j l = block - l.j
+invariant-loop-j l = (l.all ≡ true → Lone l.t l.gap l.x l.y l.at (l.at + l.j))

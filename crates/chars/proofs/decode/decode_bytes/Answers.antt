@@ -1,6 +1,5 @@
 -- The loop walks the machine over the bytes from `at` on: what it still reads from place i is what it reads from the start, and that
 -- is what the table says (Agree).
-use Prim.Native.Nat.{◌-◌}
 use mathlib.Core.Path.{sym, ◌∙◌}
 use lib.ListN.{drop_of_length-le}
 use lib.Seq.{drop-cons}

@@ -1,12 +1,8 @@
-use Prim.Native.Nat.{◌-◌}
 use mathlib.Core.Path.{◌≡◌}
-use lib.ListN.{length, drop}
+use lib.ListN.{drop}
 use Rattle.chars.specs.Utf8.{front, placed}
 use Rattle.chars.specs.Machine.{reads}
 use Rattle.chars.proofs.decode.decode_bytes.Given as goal
 
 abbrev pub invariant-loop-i : goal.invariant-loop-i
 invariant-loop-i l = reads l.t l.i (drop l.i l.s) ≡ placed l.at (front (drop l.at l.s))
-
-abbrev pub decreases-loop-i : goal.decreases-loop-i
-decreases-loop-i l = length l.s - l.i

@@ -1,8 +1,8 @@
 -- The loop keeps: the verdict on the text from place i on is that on the whole. What is passed by direct tests has no bad sequence (Wide,
 -- Ascii, Pairs), and what `decode_at` answers at any other place says how the verdict goes on (Sequences).
 use native.Mathlib.Omega.{arith}
-use Prim.Native.Nat.{◌-◌}
 use mathlib.Core.Path.{◌≡◌, sym, ◌∙◌}
+use mathlib.Core.Logic.{⊎_elim}
 use lib.ListN.{drop_of_length-le}
 use Rattle.chars.specs.declared.Decoded.{Decoded}
 use Rattle.chars.specs.Utf8.{sequences, first_bad}
@@ -29,7 +29,7 @@ loop-i-preserved-then-i-j c =
     let s = c.args.s.now in
     let l = c.loop-i in
     let j = c.past_blocks in
-    let k = c.ascii_end in
+    let k = c.run_end in
     (passed_on s l.i k.result c.wide_end-j.result
     (passed_on s l.i j.result k.result j.ensures (passed_run s j.result k.result k.ensures))
     (passed_wides s k.result c.wide_end-j.result c.wide_end-j.ensures)).1 ∙ l.invariant
@@ -41,10 +41,7 @@ pub loop-i-preserved : goal.loop-i-preserved
 loop-i-preserved c = turn c.before.before c.in-Char.is
 
 pub returns-in-Bad : goal.returns-in-Bad
-returns-in-Bad c = turn c.before.before c.in-Bad.is
-
-pub returns-in-Cut : goal.returns-in-Cut
-returns-in-Cut c = turn c.before.before c.in-Cut.is
+returns-in-Bad c = ⊎_elim (λ e. turn c.before.before e) (λ e. turn c.before.before e) c.in-Bad.is
 
 pub returns-in-End : goal.returns-in-End
 returns-in-End c = turn c.before.before c.in-End.is

@@ -1,7 +1,6 @@
 -- v is the value of the digits passed, which are good and hold in 32 bits, so the digits from each place on after v say what
 -- all of them say.
 use Rattle.digits.proofs.HexDigits.{hex_end, hex_bad, hex_over, hex_more}
-use Prim.Native.Nat.{◌-◌}
 use mathlib.Core.Path.{refl, sym, ◌∙◌}
 use native.Mathlib.Omega.{arith}
 use Rattle.digits.proofs.hexadecimal.hex_digits.Goals as goal

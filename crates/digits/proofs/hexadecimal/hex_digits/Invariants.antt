@@ -1,11 +1,8 @@
 use Rattle.digits.specs.Hex.{hex_digits}
-use Prim.Native.Nat.{◌-◌, ◌^◌, ◌<◌}
+use Prim.Native.Nat.{◌^◌, ◌<◌}
 use mathlib.Core.Path.{◌≡◌}
-use lib.ListN.{length, drop}
+use lib.ListN.{drop}
 use Rattle.digits.proofs.hexadecimal.hex_digits.Given as goal
 
 abbrev pub invariant-loop-i : goal.invariant-loop-i
 invariant-loop-i l = (hex_digits l.from 0 (drop l.from l.t) ≡ hex_digits l.i l.v (drop l.i l.t)) × (l.v < 2 ^ 32)
-
-abbrev pub decreases-loop-i : goal.decreases-loop-i
-decreases-loop-i l = length l.t - l.i

@@ -1,6 +1,6 @@
 -- The bytes passed are digits, so what the escape gives is what it gives with these digits read, from here on. The first byte that is none
 -- decides.
-use Prim.Native.Nat.{ℕ, ◌-◌}
+use Prim.Native.Nat.{ℕ}
 use mathlib.Core.Path.{sym, ap, ◌∙◌}
 use mathlib.Core.List.{List}
 use native.Mathlib.Omega.{arith}

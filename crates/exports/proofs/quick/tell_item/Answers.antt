@@ -6,6 +6,6 @@ use Rattle.exports.proofs.quick.tell_item.Goals as goal
 
 pub returns : goal.returns
 returns c =
-    tells_so c.args.s c.args.depth (Item c.args.given) c.args.words.now _ c.args.item.now _ c.args.values.now _ _
+    tells_so c.args.told.spot c.args.told.depth (Item c.args.told.item) c.args.words.now _ c.args.item.now _ c.args.values.now _ _
     c.put_spot.ensures
     (λ text. (c.put.ensures, c.put_values.ensures, refl))

@@ -4,6 +4,3 @@ use Rattle.findings.proofs.lines.first_on_line.Given as goal
 
 abbrev pub invariant-loop-i : goal.invariant-loop-i
 invariant-loop-i l = first_on_line l.source l.a ≡ first_on_line l.source l.i
-
-abbrev pub decreases-loop-i : goal.decreases-loop-i
-decreases-loop-i l = l.i

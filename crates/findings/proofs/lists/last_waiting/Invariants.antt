@@ -6,6 +6,3 @@ use Rattle.findings.proofs.lists.last_waiting.Given as goal
 
 abbrev pub invariant-loop-i : goal.invariant-loop-i
 invariant-loop-i l = (l.i ≤ l.p) × (last_before (waits l.rows l.depth l.p) l.p ≡ last_before (waits l.rows l.depth l.p) l.i)
-
-abbrev pub decreases-loop-i : goal.decreases-loop-i
-decreases-loop-i l = l.i

@@ -1,21 +1,21 @@
 -- The lists are read into no room, and the refusal is told.
 use Rattle.findings.specs.Lists.{list_of, nested_told}
 use mathlib.Core.Path.{sym, ap, ◌∙◌}
-use Rattle.nested.specs.Lent.{Outcome}
+use Rattle.nested.specs.Lent.{told_of, Outcome}
 use Rattle.findings.proofs.lists.list_of.Goals as goal
 
-pub returns-in-Built : goal.returns-in-Built
+pub returns-in-Ok : goal.returns-in-Ok
 unfolding list_of
-returns-in-Built c =
+returns-in-Ok c =
     let args = c.args in
     let build = c.build-built in
     let told = nested_told args.source.now args.rows.now in
-    sym (ap told (ap (λ (o : Outcome). o.answer) (sym build.ensures) ∙ c.in-Built.is))
+    sym (ap told (ap (λ (o : Outcome). o.answer) (sym build.ensures) ∙ ap told_of c.in-Ok.is))
 
-pub returns-in-Refused : goal.returns-in-Refused
+pub returns-in-Err : goal.returns-in-Err
 unfolding list_of
-returns-in-Refused c =
+returns-in-Err c =
     let args = c.args in
     let build = c.build-built in
     let told = nested_told args.source.now args.rows.now in
-    c.refused_list.ensures ∙ sym (ap told (ap (λ (o : Outcome). o.answer) (sym build.ensures) ∙ c.in-Refused.is))
+    c.refused_list.ensures ∙ sym (ap told (ap (λ (o : Outcome). o.answer) (sym build.ensures) ∙ ap told_of c.in-Err.is))

@@ -1,40 +1,35 @@
--- The tests are the definition's, in its order.
-use borrow.Author.Tests.{eq-eqb, ne_eqb}
+-- Each arm is the definition's test for its number.
 use Rattle.findings.specs.Lists.{refused_list}
 use Rattle.findings.proofs.lists.refused_list.Goals as goal
 
-pub returns-then-n-eq-BRACKET_OPEN : goal.returns-then-n-eq-BRACKET_OPEN
+pub returns-in-BracketOpen : goal.returns-in-BracketOpen
 unfolding refused_list
-returns-then-n-eq-BRACKET_OPEN c = rw (eq-eqb _ _ c.if-n-eq-BRACKET_OPEN.true) c.bracket_open.ensures
+returns-in-BracketOpen c = rw c.in-BracketOpen.is c.bracket_open.ensures
 
-pub returns-then-n-eq-WRONG_CLOSE : goal.returns-then-n-eq-WRONG_CLOSE
+pub returns-in-WrongClose : goal.returns-in-WrongClose
 unfolding refused_list
-returns-then-n-eq-WRONG_CLOSE c = rw (ne_eqb _ _ c.if-n-eq-BRACKET_OPEN.false, eq-eqb _ _ c.if-n-eq-WRONG_CLOSE.true) c.wrong_close.ensures
+returns-in-WrongClose c = rw c.in-WrongClose.is c.wrong_close.ensures
 
-pub returns-then-n-eq-MISPLACED_DOT : goal.returns-then-n-eq-MISPLACED_DOT
+pub returns-in-MisplacedDot : goal.returns-in-MisplacedDot
 unfolding refused_list
-returns-then-n-eq-MISPLACED_DOT c =
-    let if1 = c.if-n-eq-BRACKET_OPEN in
-    rw (ne_eqb _ _ if1.false, ne_eqb _ _ c.if-n-eq-WRONG_CLOSE.false, eq-eqb _ _ c.if-n-eq-MISPLACED_DOT.true) c.misplaced_dot.ensures
+returns-in-MisplacedDot c = rw c.in-MisplacedDot.is c.misplaced_dot.ensures
 
-pub returns-then-n-eq-MARK_WAITS : goal.returns-then-n-eq-MARK_WAITS
+pub returns-in-MarkWaits : goal.returns-in-MarkWaits
 unfolding refused_list
-returns-then-n-eq-MARK_WAITS c =
-    let if1 = c.if-n-eq-BRACKET_OPEN in
-    let if2 = c.if-n-eq-WRONG_CLOSE in
-    rw (ne_eqb _ _ if1.false, ne_eqb _ _ if2.false, ne_eqb _ _ c.if-n-eq-MISPLACED_DOT.false, eq-eqb _ _ c.if-n-eq-MARK_WAITS.true) c.mark_waits.ensures
+returns-in-MarkWaits c = rw c.in-MarkWaits.is c.mark_waits.ensures
 
-pub returns-then-n-eq-TOO_DEEP : goal.returns-then-n-eq-TOO_DEEP
+pub returns-in-TooDeep : goal.returns-in-TooDeep
 unfolding refused_list
-returns-then-n-eq-TOO_DEEP c =
-    let if1 = c.if-n-eq-BRACKET_OPEN in
-    let if2 = c.if-n-eq-WRONG_CLOSE in
-    let if3 = c.if-n-eq-MISPLACED_DOT in
-    rw (ne_eqb _ _ if1.false, ne_eqb _ _ if2.false, ne_eqb _ _ if3.false, ne_eqb _ _ c.if-n-eq-MARK_WAITS.false, eq-eqb _ _ c.if-n-eq-TOO_DEEP.true) c.at_row.ensures
+returns-in-TooDeep c = rw c.in-TooDeep.is c.at_row.ensures
 
-pub returns : goal.returns
+pub returns-in-Alien : goal.returns-in-Alien
 unfolding refused_list
-returns c =
-    let if1 = c.if-n-eq-BRACKET_OPEN in
-    let if2 = c.if-n-eq-WRONG_CLOSE in
-    rw (ne_eqb _ _ if1.false, ne_eqb _ _ if2.false, ne_eqb _ _ c.if-n-eq-MISPLACED_DOT.false, ne_eqb _ _ c.if-n-eq-MARK_WAITS.false, ne_eqb _ _ c.if-n-eq-TOO_DEEP.false)
+returns-in-Alien c = rw c.in-Alien.is
+
+pub returns-in-ErrorItem : goal.returns-in-ErrorItem
+unfolding refused_list
+returns-in-ErrorItem c = rw c.in-ErrorItem.is
+
+pub returns-in-FewNodes : goal.returns-in-FewNodes
+unfolding refused_list
+returns-in-FewNodes c = rw c.in-FewNodes.is

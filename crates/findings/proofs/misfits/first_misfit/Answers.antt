@@ -1,6 +1,5 @@
 -- The pass keeps what `Passing` says.
 use mathlib.Core.Path.{refl, sym, ◌∙◌, ap}
-use Prim.Native.Nat.{◌-◌}
 use Rattle.findings.proofs.LineStarts.{line_le}
 use Rattle.findings.proofs.MisfitPass.{passing_start, passing_end, passing_hit, passing_next}
 use Rattle.findings.specs.Lines.{line_start}

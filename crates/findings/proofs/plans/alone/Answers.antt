@@ -5,4 +5,4 @@ use Rattle.findings.proofs.plans.alone.Goals as goal
 pub returns : goal.returns
 returns c =
     let args = c.args in
-    call_alone args.f args.rows.now args.findings.now c.lay-n.ensures
+    call_alone args.f args.rows.now args.findings.now c.lay.ensures

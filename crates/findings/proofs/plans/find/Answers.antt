@@ -11,15 +11,15 @@ returns-then-source-gt-LIMIT c =
 
 pub not_utf8-requires : goal.not_utf8-requires
 not_utf8-requires c =
-    omega (arith, first_bad_ahead c.args.source.now c.in-Bad.b (sym c.first_bad.ensures ∙ c.in-Bad.is), c.if-source-gt-LIMIT.false)
+    omega (arith, first_bad_ahead c.args.source.now c.in-Some.b (sym c.first_bad.ensures ∙ c.in-Some.is), c.if-source-gt-LIMIT.false)
 
-pub returns-in-Good : goal.returns-in-Good
-returns-in-Good c =
+pub returns-in-None : goal.returns-in-None
+returns-in-None c =
     c.find_good.ensures
-    ∙ call_good c.args.source.now c.args.rows.now c.args.findings.now c.if-source-gt-LIMIT.false (sym c.first_bad.ensures ∙ c.in-Good.is)
+    ∙ call_good c.args.source.now c.args.rows.now c.args.findings.now c.if-source-gt-LIMIT.false (sym c.first_bad.ensures ∙ c.in-None.is)
 
-pub returns-in-Bad : goal.returns-in-Bad
-returns-in-Bad c =
-    c.alone-in-Bad.ensures
+pub returns-in-Some : goal.returns-in-Some
+returns-in-Some c =
+    c.alone-in-Some.ensures
     ∙ rw c.not_utf8.ensures
-    (call_bad c.args.source.now c.args.rows.now c.args.findings.now c.if-source-gt-LIMIT.false c.in-Bad.b (sym c.first_bad.ensures ∙ c.in-Bad.is))
+    (call_bad c.args.source.now c.args.rows.now c.args.findings.now c.if-source-gt-LIMIT.false c.in-Some.b (sym c.first_bad.ensures ∙ c.in-Some.is))

@@ -15,4 +15,4 @@ slice_bounds-tell-end-2 c = part_length c.args.source.now c.args.rows.now c.rows
 
 pub returns : goal.returns
 returns c =
-    all_found c.args.source.now c.args.rows.now c.rows-count.ensures c.if-rows-count.false c.args.findings.now c.tell-n.ensures
+    all_found c.args.source.now c.args.rows.now c.rows-count.ensures c.if-rows-count.false c.args.findings.now c.tell.ensures

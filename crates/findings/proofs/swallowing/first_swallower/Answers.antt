@@ -1,6 +1,5 @@
 -- The loop keeps that the first of them is the first from row p on.
 use mathlib.Core.Path.{sym, ◌∙◌}
-use Prim.Native.Nat.{◌-◌}
 use native.Mathlib.Omega.{arith}
 use Rattle.findings.specs.Slips.{is_swallower}
 use Rattle.findings.proofs.Searches.{first_start, first_end, first_hit, first_miss}

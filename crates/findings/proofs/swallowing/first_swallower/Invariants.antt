@@ -7,6 +7,3 @@ use Rattle.findings.proofs.swallowing.first_swallower.Given as goal
 
 abbrev pub invariant-loop-p : goal.invariant-loop-p
 invariant-loop-p l = (l.p ≤ length l.rows / 10) × (first_from (is_swallower l.source l.rows) (length l.rows / 10) 0 ≡ first_from (is_swallower l.source l.rows) (length l.rows / 10 - l.p) l.p)
-
-abbrev pub decreases-loop-p : goal.decreases-loop-p
-decreases-loop-p l = length l.rows / 10 - l.p

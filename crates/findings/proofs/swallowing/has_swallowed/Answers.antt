@@ -10,24 +10,24 @@ use Rattle.findings.proofs.swallowing.has_swallowed.Goals.{then-b-eq10, else-b-e
 
 pub returns-then-opens_line : goal.returns-then-opens_line
 returns-then-opens_line c =
-    let loop = c.loop-i in
-    sym (swallow_open c.args.part.now loop.i loop.fresh c.loop-i-test.true c.if-b-eq10.false (sym c.opens_line.ensures ∙ c.if-opens_line.true))
+    let loop = c.loop-b in
+    sym (swallow_open c.args.part.now loop.b-index loop.fresh c.loop-b-test.true c.if-b-eq10.false (sym c.opens_line.ensures ∙ c.if-opens_line.true))
     ∙ loop.invariant
 
-pub loop-i-preserved : goal.loop-i-preserved
-loop-i-preserved c =
-    let loop = c.loop-i in
+pub loop-b-preserved : goal.loop-b-preserved
+loop-b-preserved c =
+    let loop = c.loop-b in
     let s = c.args.part.now in
-    let i = loop.i in
+    let i = loop.b-index in
     elim c.if-b-eq10.branch [
       | then-b-eq10 w ↦
           ap (λ (b : Bool). swallows b (drop (i + 1) s)) w.fresh-is
-          ∙ sym (swallow_newline s i loop.fresh c.loop-i-test.true w.if-b-eq10.true) ∙ loop.invariant
+          ∙ sym (swallow_newline s i loop.fresh c.loop-b-test.true w.if-b-eq10.true) ∙ loop.invariant
       | else-b-eq10+else-opens_line w ↦
           ap (λ (b : Bool). swallows b (drop (i + 1) s)) (w.fresh-is ∙ w.stays_fresh-fresh.ensures)
-          ∙ sym (swallow_on s i loop.fresh c.loop-i-test.true w.if-b-eq10.false (sym w.opens_line.ensures ∙ w.if-opens_line.false))
+          ∙ sym (swallow_on s i loop.fresh c.loop-b-test.true w.if-b-eq10.false (sym w.opens_line.ensures ∙ w.if-opens_line.false))
           ∙ loop.invariant
     ]
 
 pub returns : goal.returns
-returns c = sym (swallow_end c.args.part.now c.loop-i.i c.loop-i.fresh c.loop-i-test.false) ∙ c.loop-i.invariant
+returns c = sym (swallow_end c.args.part.now c.loop-b.b-index c.loop-b.fresh c.loop-b-test.false) ∙ c.loop-b.invariant

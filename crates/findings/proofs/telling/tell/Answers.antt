@@ -1,6 +1,5 @@
 -- The loop keeps what `RowByRow` says; each row tells what the definition has of it.
 use mathlib.Core.Path.{ap, ◌∙◌}
-use Prim.Native.Nat.{◌-◌}
 use native.Mathlib.Omega.{arith}
 use lib.ListN.{length, length-append}
 use Rattle.findings_rows.proofs.Laid.{laid_length}

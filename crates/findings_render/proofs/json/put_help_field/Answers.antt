@@ -1,7 +1,6 @@
 -- By the test.
 use mathlib.Core.Path.{sym, ◌∙◌}
 use Rattle.findings_render.specs.Json.{help_field}
-use Rattle.findings_render_parts.proofs.OneByOne.{joined, as_quoted}
 use Rattle.findings_render.proofs.json.put_help_field.Goals as goal
 
 pub returns-then-not-is_told : goal.returns-then-not-is_told
@@ -12,5 +11,4 @@ returns-then-not-is_told c =
 pub returns : goal.returns
 unfolding help_field
 returns c =
-    rw (sym c.is_told.ensures ∙ c.if-not-is_told.false)
-    (joined c.put-begun.ensures (joined (as_quoted c.put_text-worded.ensures) c.put-2.ensures))
+    rw (sym c.is_told.ensures ∙ c.if-not-is_told.false) c.put_told.ensures

@@ -6,6 +6,6 @@ pub returns-then-t-gt-WARNING : goal.returns-then-t-gt-WARNING
 returns-then-t-gt-WARNING c =
     rw (lt-ltb _ _ c.if-t-gt-WARNING.true) c.put_if.ensures
 
-pub returns : goal.returns
-returns c =
-    rw (le-ltb _ _ c.if-t-gt-WARNING.false) c.put_if-2.ensures
+pub returns-else-t-gt-WARNING : goal.returns-else-t-gt-WARNING
+returns-else-t-gt-WARNING c =
+    rw (le-ltb _ _ c.if-t-gt-WARNING.false) c.put_if-else-t-gt-WARNING.ensures

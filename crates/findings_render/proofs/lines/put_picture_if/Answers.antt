@@ -6,5 +6,5 @@ pub returns-then-full : goal.returns-then-full
 returns-then-full c =
     rw c.if-full.true c.put_picture.ensures
 
-pub returns : goal.returns
-returns c = rw c.if-full.false nothing
+pub returns-else-full : goal.returns-else-full
+returns-else-full c = rw c.if-full.false nothing

@@ -8,7 +8,7 @@ unfolding severity_word
 returns-then-t-gt-WARNING c =
     rw (lt-ltb _ _ c.if-t-gt-WARNING.true) c.put.ensures
 
-pub returns : goal.returns
+pub returns-else-t-gt-WARNING : goal.returns-else-t-gt-WARNING
 unfolding severity_word
-returns c =
-    rw (le-ltb _ _ c.if-t-gt-WARNING.false) c.put-2.ensures
+returns-else-t-gt-WARNING c =
+    rw (le-ltb _ _ c.if-t-gt-WARNING.false) c.put-else-t-gt-WARNING.ensures

@@ -6,5 +6,5 @@ pub returns-then-there : goal.returns-then-there
 returns-then-there c =
     rw c.if-there.true c.put.ensures
 
-pub returns : goal.returns
-returns c = rw c.if-there.false nothing
+pub returns-else-there : goal.returns-else-there
+returns-else-there c = rw c.if-there.false nothing

@@ -9,6 +9,6 @@ pub returns : goal.returns
 unfolding line_of
 returns c =
     joined c.put_aligned-numbered.ensures (joined c.put-barred.ensures
-    (joined (rw c.differ.ensures at c.put_if-begun.ensures)
+    (joined c.put_if-begun.ensures
     (joined (as_laid (ap shown c.part.ensures) c.put_shown-shown.ensures)
-    (joined (rw c.differ-2.ensures at c.put_if-ended.ensures) c.put.ensures))))
+    (joined c.put_if-ended.ensures c.put.ensures))))

@@ -6,4 +6,4 @@ use Rattle.findings_render.proofs.summing.put_count.Goals as goal
 pub returns : goal.returns
 unfolding count_of
 returns c =
-    joined c.put_number-counted.ensures (joined c.put-worded.ensures (rw c.differ.ensures at c.put_if.ensures))
+    joined c.put_number-counted.ensures (joined c.put-worded.ensures c.put_if.ensures)

@@ -13,4 +13,4 @@ pub returns : goal.returns
 unfolding counts
 returns c =
     rw (ne_eqb _ _ c.if-findings-eq0.false) (joined c.put_count-first.ensures
-    (joined c.put-parted.ensures (rw c.minus.ensures at c.put_count.ensures)))
+    (joined c.put-parted.ensures (rw c.saturating_sub.ensures at c.put_count.ensures)))

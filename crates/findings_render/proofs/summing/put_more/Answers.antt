@@ -12,4 +12,4 @@ pub returns : goal.returns
 unfolding more
 returns c =
     rw (lt-ltb _ _ c.if-findings-told.false) (joined c.put-named.ensures (joined c.put-parted.ensures
-    (joined (rw c.minus.ensures at c.put_number-counted.ensures) c.put.ensures)))
+    (joined (rw c.saturating_sub.ensures at c.put_number-counted.ensures) c.put.ensures)))

@@ -1,24 +1,27 @@
--- By the tests.
-use mathlib.Core.Path.{ap}
-use Prim.Native.Nat.{ℕ, ◌+◌}
-use borrow.Author.Tests.{eq-eqb, ne_eqb}
+-- By how it is shown.
 use Rattle.findings_render_parts.specs.Shown.{columns}
 use Rattle.findings_render_parts.proofs.characters.columns_of.Goals as goal
 
-pub returns-then-u-eq-BY_NUMBER : goal.returns-then-u-eq-BY_NUMBER
+pub returns-in-NoColumn : goal.returns-in-NoColumn
 unfolding columns
-returns-then-u-eq-BY_NUMBER c = rw (eq-eqb _ _ c.if-u-eq-BY_NUMBER.true) (ap (λ (n : ℕ). 4 + n) c.hex_count.ensures.0)
+returns-in-NoColumn c = rw c.in-NoColumn.is
 
-pub returns-then-u-eq-AS_BYTE : goal.returns-then-u-eq-AS_BYTE
+pub returns-in-OneColumn : goal.returns-in-OneColumn
 unfolding columns
-returns-then-u-eq-AS_BYTE c = rw (ne_eqb _ _ c.if-u-eq-BY_NUMBER.false, eq-eqb _ _ c.if-u-eq-AS_BYTE.true)
+returns-in-OneColumn c = rw c.in-OneColumn.is
 
-pub returns-then-u-eq-AS_TAB : goal.returns-then-u-eq-AS_TAB
+pub returns-in-TwoColumns : goal.returns-in-TwoColumns
 unfolding columns
-returns-then-u-eq-AS_TAB c =
-    rw (ne_eqb _ _ c.if-u-eq-BY_NUMBER.false, ne_eqb _ _ c.if-u-eq-AS_BYTE.false, eq-eqb _ _ c.if-u-eq-AS_TAB.true)
+returns-in-TwoColumns c = rw c.in-TwoColumns.is
 
-pub returns : goal.returns
+pub returns-in-Tab : goal.returns-in-Tab
 unfolding columns
-returns c =
-    rw (ne_eqb _ _ c.if-u-eq-BY_NUMBER.false, ne_eqb _ _ c.if-u-eq-AS_BYTE.false, ne_eqb _ _ c.if-u-eq-AS_TAB.false)
+returns-in-Tab c = rw c.in-Tab.is
+
+pub returns-in-ByNumber : goal.returns-in-ByNumber
+unfolding columns
+returns-in-ByNumber c = rw (c.in-ByNumber.is, c.hex_count.ensures.0)
+
+pub returns-in-AsByte : goal.returns-in-AsByte
+unfolding columns
+returns-in-AsByte c = rw c.in-AsByte.is

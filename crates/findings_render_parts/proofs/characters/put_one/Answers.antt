@@ -1,22 +1,20 @@
 -- By how it is shown.
 use mathlib.Core.Path.{◌∙◌}
 use native.Mathlib.Nat.{sub-zero}
-use borrow.Author.Tests.{eq-eqb, ne_eqb}
 use Rattle.findings_render_parts.specs.Shown.{shown_one}
 use Rattle.findings_render_parts.proofs.OneByOne.{as_laid}
+use Rattle.findings_render_parts.proofs.Walks.{shown_else}
 use Rattle.findings_render_parts.proofs.characters.put_one.Goals as goal
 
-pub returns-then-u-eq-BY_NUMBER : goal.returns-then-u-eq-BY_NUMBER
+pub returns-in-ByNumber : goal.returns-in-ByNumber
 unfolding shown_one
-returns-then-u-eq-BY_NUMBER c =
-    rw (eq-eqb _ _ c.if-u-eq-BY_NUMBER.true) c.put_by_number.ensures
+returns-in-ByNumber c = rw c.in-ByNumber.is c.put_by_number.ensures
 
-pub returns-then-u-eq-AS_BYTE : goal.returns-then-u-eq-AS_BYTE
+pub returns-in-AsByte : goal.returns-in-AsByte
 unfolding shown_one
-returns-then-u-eq-AS_BYTE c =
-    rw (ne_eqb _ _ c.if-u-eq-BY_NUMBER.false, eq-eqb _ _ c.if-u-eq-AS_BYTE.true) c.put_as_byte.ensures
+returns-in-AsByte c = rw c.in-AsByte.is c.put_as_byte.ensures
 
-pub returns : goal.returns
+pub returns-in_default : goal.returns-in_default
 unfolding shown_one
-returns c =
-    rw (ne_eqb _ _ c.if-u-eq-BY_NUMBER.false, ne_eqb _ _ c.if-u-eq-AS_BYTE.false) (as_laid (c.part.ensures ∙ rw sub-zero) c.put.ensures)
+returns-in_default c =
+    as_laid ((rw sub-zero at c.part.ensures) ∙ shown_else _ c.args.u c.args.t.now c.in_default.not-ByNumber c.in_default.not-AsByte) c.put.ensures

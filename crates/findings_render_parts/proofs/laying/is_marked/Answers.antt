@@ -6,6 +6,6 @@ pub returns-then-quoted : goal.returns-then-quoted
 unfolding is_marked
 returns-then-quoted c = rw c.if-quoted.true c.is_special.ensures
 
-pub returns : goal.returns
+pub returns-else-quoted : goal.returns-else-quoted
 unfolding is_marked
-returns c = rw c.if-quoted.false
+returns-else-quoted c = rw c.if-quoted.false

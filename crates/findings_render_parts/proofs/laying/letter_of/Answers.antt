@@ -7,6 +7,6 @@ pub returns-then-b-eq9 : goal.returns-then-b-eq9
 unfolding letter
 returns-then-b-eq9 c = rw (eq-eqb _ _ c.if-b-eq9.true)
 
-pub returns : goal.returns
+pub returns-else-b-eq9 : goal.returns-else-b-eq9
 unfolding letter
-returns c = rw (ne_eqb _ _ c.if-b-eq9.false)
+returns-else-b-eq9 c = rw (ne_eqb _ _ c.if-b-eq9.false)

@@ -1,19 +1,18 @@
--- The invariant: the bytes from the place i on are left.
-use native.Mathlib.Omega.{arith}
+-- The invariant: the bytes from the place reached on are left.
 use Rattle.laws.proofs.Places.{past, here}
 use Rattle.findings_render_parts.proofs.OneByOne.{left_start, left_on, left_end}
 use Rattle.findings_render_parts.proofs.laying.put.Goals as goal
 
-pub loop-i-init : goal.loop-i-init
-loop-i-init c = (omega arith, left_start)
+pub loop-b-init : goal.loop-b-init
+loop-b-init c = left_start
 
-pub loop-i-preserved : goal.loop-i-preserved
-loop-i-preserved c =
-    (omega arith, left_on c.loop-i.invariant.1 (here c.args.text.now c.loop-i.i c.loop-i-test.true) c.put_byte-next.ensures)
+pub loop-b-preserved : goal.loop-b-preserved
+loop-b-preserved c =
+    left_on c.loop-b.invariant (here c.args.text.now c.loop-b.b-index c.loop-b-test.true) c.put_byte-next.ensures
 
 pub shape_of-out : goal.shape_of-out
-shape_of-out c = c.loop-i.invariant.1.room
+shape_of-out c = c.loop-b.invariant.room
 
 pub returns : goal.returns
 returns c =
-    left_end c.loop-i.invariant.1 (past c.args.text.now c.loop-i.i c.loop-i-test.false)
+    left_end c.loop-b.invariant (past c.args.text.now c.loop-b.b-index c.loop-b-test.false)

@@ -12,6 +12,6 @@ pub returns-then-c-lt1048576 : goal.returns-then-c-lt1048576
 unfolding hex_count
 returns-then-c-lt1048576 c = (rw (le-ltb _ _ c.if-c-lt65536.false, lt-ltb _ _ c.if-c-lt1048576.true), omega arith)
 
-pub returns : goal.returns
+pub returns-else-c-lt1048576 : goal.returns-else-c-lt1048576
 unfolding hex_count
-returns c = (rw (le-ltb _ _ c.if-c-lt65536.false, le-ltb _ _ c.if-c-lt1048576.false), omega arith)
+returns-else-c-lt1048576 c = (rw (le-ltb _ _ c.if-c-lt65536.false, le-ltb _ _ c.if-c-lt1048576.false), omega arith)

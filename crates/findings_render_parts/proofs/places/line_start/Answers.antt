@@ -1,5 +1,6 @@
 -- The invariant: no newline stands between this place and the first.
-use mathlib.Core.Path.{refl, sym, ◌∙◌}
+use Prim.Native.Nat.{◌+◌, ◌-◌}
+use mathlib.Core.Path.{◌≡◌, refl, sym, ◌∙◌}
 use native.Mathlib.Omega.{arith}
 use Rattle.findings_render_parts.proofs.Spotted.{start_here, start_back, start_none}
 use Rattle.findings_render_parts.proofs.places.line_start.Goals as goal
@@ -9,7 +10,8 @@ loop-i-init c = (omega arith, refl)
 
 pub returns-then-s-i-eq10 : goal.returns-then-s-i-eq10
 returns-then-s-i-eq10 c =
-    (sym (c.loop-i.invariant.1 ∙ start_here c.args.s.now c.loop-i.i c.loop-i-test.true c.if-s-i-eq10.true), omega arith)
+    let e : c.loop-i.i - 1 + 1 ≡ c.loop-i.i = omega arith in
+    (e ∙ sym (c.loop-i.invariant.1 ∙ start_here c.args.s.now c.loop-i.i c.loop-i-test.true c.if-s-i-eq10.true), omega arith)
 
 pub loop-i-preserved : goal.loop-i-preserved
 loop-i-preserved c =

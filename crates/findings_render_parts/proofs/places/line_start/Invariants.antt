@@ -5,6 +5,3 @@ use Rattle.findings_render_parts.proofs.places.line_start.Given as goal
 
 abbrev pub invariant-loop-i : goal.invariant-loop-i
 invariant-loop-i l = (l.i ≤ l.at) × (start_of l.s l.at ≡ start_of l.s l.i)
-
-abbrev pub decreases-loop-i : goal.decreases-loop-i
-decreases-loop-i l = l.i

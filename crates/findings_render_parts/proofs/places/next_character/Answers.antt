@@ -7,12 +7,12 @@ use Rattle.findings_render_parts.proofs.places.next_character.Goals as goal
 pub loop-i-preserved : goal.loop-i-preserved
 unfolding next_character
 loop-i-preserved c =
-    sym (span_hit later c.args.s.now c.loop-i.i c.loop-i-test.true (sym c.is_byte_within.ensures ∙ c.if-is_byte_within.true)) ∙ c.loop-i.invariant
+    sym (span_hit later c.args.s.now c.loop-i.i c.loop-i-test.true (sym c.between.ensures ∙ c.if-not-between.false)) ∙ c.loop-i.invariant
 
-pub returns-else-is_byte_within : goal.returns-else-is_byte_within
+pub returns-then-not-between : goal.returns-then-not-between
 unfolding next_character
-returns-else-is_byte_within c =
-    sym (span_stop later c.args.s.now c.loop-i.i c.loop-i-test.true (sym c.is_byte_within.ensures ∙ c.if-is_byte_within.false)) ∙ c.loop-i.invariant
+returns-then-not-between c =
+    sym (span_stop later c.args.s.now c.loop-i.i c.loop-i-test.true (sym c.between.ensures ∙ c.if-not-between.true)) ∙ c.loop-i.invariant
 
 pub returns : goal.returns
 unfolding next_character

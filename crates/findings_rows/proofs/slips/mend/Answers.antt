@@ -12,19 +12,19 @@ overflow_cast-e c =
           c.rest_from.result
           c.past_quote.result c.quote_of-quote.ensures
           c.rest_from.ensures c.past_quote.ensures
-          c.in-Behind.e c.in-Behind.is c.requires.1,
+          c.in-Some.e c.in-Some.is c.requires.1,
     )
 
-pub returns-in-Behind : goal.returns-in-Behind
-returns-in-Behind c =
+pub returns-in-Some : goal.returns-in-Some
+returns-in-Some c =
     mend_behind c.args.source.now c.args.r c.args.after c.quote_of-quote.result c.rest_from.result
     c.past_quote.result c.quote_of-quote.ensures c.rest_from.ensures c.past_quote.ensures
-    c.in-Behind.e c.in-Behind.is c.ended.result c.spot_at.result c.ended.ensures c.spot_at.ensures
+    c.in-Some.e c.in-Some.is c.ended.result c.spot_at.result c.ended.ensures c.spot_at.ensures
 
-pub returns-in-Nowhere : goal.returns-in-Nowhere
-returns-in-Nowhere c =
+pub returns-in-None : goal.returns-in-None
+returns-in-None c =
     mend_nowhere c.args.source.now c.args.r c.args.after c.quote_of-quote.result
     c.rest_from.result
     c.past_quote.result c.quote_of-quote.ensures
     c.rest_from.ensures c.past_quote.ensures
-    c.in-Nowhere.is c.unclosed.result c.spot_at-in-Nowhere.result c.unclosed.ensures c.spot_at-in-Nowhere.ensures
+    c.in-None.is c.unclosed.result c.spot_at-in-None.result c.unclosed.ensures c.spot_at-in-None.ensures

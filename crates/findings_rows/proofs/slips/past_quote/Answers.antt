@@ -1,5 +1,4 @@
 -- What is to be found from each byte on is what was to be found from the first.
-use Prim.Native.Nat.{◌-◌}
 use mathlib.Core.Path.{sym, ◌∙◌}
 use Rattle.findings_rows.proofs.Escapes.{closing_end, closing_escaped, closing_here, closing_on}
 use Rattle.findings_rows.proofs.slips.past_quote.Goals as goal

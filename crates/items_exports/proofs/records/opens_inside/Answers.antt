@@ -1,14 +1,14 @@
-use borrow.Author.Tests.{eq-eqb, ne_eqb}
+-- By the tests.
+use Rattle.std.proofs.Common.{arith}
+use Rattle.std.proofs.lemmas.Grind.{common_steps}
+use Rattle.std.proofs.lemmas.Bool.Decides.{nat_tests}
 use Rattle.items_exports.specs.Records.{opens_inside}
-use Rattle.items_exports.proofs.BothTests.{both_no, both_yes}
 use Rattle.items_exports.proofs.records.opens_inside.Goals as goal
 
--- src/records.rt:43:9
 pub returns-then-records-first-eq-OPEN_PAREN : goal.returns-then-records-first-eq-OPEN_PAREN
 unfolding opens_inside
-returns-then-records-first-eq-OPEN_PAREN c = both_yes _ _ (eq-eqb _ _ c.if-records-first-eq-OPEN_PAREN.true)
+returns-then-records-first-eq-OPEN_PAREN c = grind (arith, nat_tests, common_steps)
 
--- src/records.rt:37:1
-pub returns : goal.returns
+pub returns-else-records-first-eq-OPEN_PAREN : goal.returns-else-records-first-eq-OPEN_PAREN
 unfolding opens_inside
-returns c = both_no _ _ (ne_eqb _ _ c.if-records-first-eq-OPEN_PAREN.false)
+returns-else-records-first-eq-OPEN_PAREN c = grind (arith, nat_tests, common_steps)

@@ -1,21 +1,14 @@
-use mathlib.Core.Path.{sym, ◌∙◌}
+-- By the tests.
+use Rattle.std.proofs.Common.{arith}
+use Rattle.std.proofs.lemmas.Grind.{common_steps}
+use Rattle.std.proofs.lemmas.Bool.Decides.{nat_tests}
 use Rattle.items_exports.specs.Records.{record_fits}
-use Rattle.items_exports.proofs.BothTests.{both_no, both_yes}
 use Rattle.items_exports.proofs.records.record_fits.Goals as goal
 
--- src/records.rt:110:9
-pub returns-then-not-lies : goal.returns-then-not-lies
+pub returns-then-lies-2 : goal.returns-then-lies-2
 unfolding record_fits
-returns-then-not-lies c = both_no _ _ (sym c.lies.ensures ∙ c.if-not-lies.true)
+returns-then-lies-2 c = grind (arith, nat_tests, common_steps)
 
--- src/records.rt:113:9
-pub returns-then-not-lies-2 : goal.returns-then-not-lies-2
+pub returns-else-lies-2 : goal.returns-else-lies-2
 unfolding record_fits
-returns-then-not-lies-2 c = both_no _ _ (sym c.lies-2.ensures ∙ c.if-not-lies-2.true) ∙ both_yes _ _
-    (sym c.lies.ensures ∙ c.if-not-lies.false)
-
--- src/records.rt:104:1
-pub returns : goal.returns
-unfolding record_fits
-returns c = c.text_fits.ensures ∙ both_yes _ _ (sym c.lies-2.ensures ∙ c.if-not-lies-2.false)
-    ∙ both_yes _ _ (sym c.lies.ensures ∙ c.if-not-lies.false)
+returns-else-lies-2 c = grind (arith, nat_tests, common_steps)

@@ -1,8 +1,5 @@
 -- What each look tells makes the item's parts, and they its record (`light_item`).
 use native.Mathlib.Omega.{arith}
-use mathlib.Core.Path.{subst}
-use Prim.Native.Nat.{◌+◌}
-use Rattle.items_files.specs.Glance.{BriefNumber, BriefAt}
 use Rattle.items_files.proofs.LightItems.{light_item}
 use Rattle.items_files.proofs.glance.item_at.Goals as goal
 
@@ -19,67 +16,51 @@ brief_at-requires c =
 pub pair_at-requires : goal.pair_at-requires
 pair_at-requires c =
     let head = c.light_head.ensures c.if-light_head.true in
-    let place : BriefNumber c.args.file.now (c.args.at + 4) _ _ = subst (BriefAt c.args.file.now (c.args.at + 4))
-    c.in-Value.is c.brief_at.ensures in
+    let place = c.in_ok-place.ensures in
     omega (arith, head.room, place.near)
 
-pub overflow_add-i : goal.overflow_add-i
-overflow_add-i c =
+pub overflow_add-place : goal.overflow_add-place
+overflow_add-place c =
     let head = c.light_head.ensures c.if-light_head.true in
-    let place : BriefNumber c.args.file.now (c.args.at + 4) _ _ = subst (BriefAt c.args.file.now (c.args.at + 4))
-    c.in-Value.is c.brief_at.ensures in
+    let place = c.in_ok-place.ensures in
     omega (arith, head.room, place.near)
 
 pub brief_at-requires-then-pair_at : goal.brief_at-requires-then-pair_at
 brief_at-requires-then-pair_at c =
     let head = c.light_head.ensures c.if-light_head.true in
-    let place : BriefNumber c.args.file.now (c.args.at + 4) _ _ = subst (BriefAt c.args.file.now (c.args.at + 4))
-    c.in-Value.is c.brief_at.ensures in
+    let place = c.in_ok-place.ensures in
     omega (arith, head.room, place.near)
 
 pub pair_at-requires-then-pair_at : goal.pair_at-requires-then-pair_at
 pair_at-requires-then-pair_at c =
     let head = c.light_head.ensures c.if-light_head.true in
-    let place : BriefNumber c.args.file.now (c.args.at + 4) _ _ = subst (BriefAt c.args.file.now (c.args.at + 4))
-    c.in-Value.is c.brief_at.ensures in
-    let text = subst (BriefAt c.args.file.now (_ + 2)) c.in-Value-brief_at.is c.brief_at-then-pair_at.ensures in
+    let place = c.in_ok-place.ensures in
+    let text = c.in_ok-text.ensures in
     omega (arith, head.room, place.near, text.near)
 
 pub light_record-requires : goal.light_record-requires
-light_record-requires c =
-    let head = c.light_head.ensures c.if-light_head.true in
-    let place : BriefNumber c.args.file.now (c.args.at + 4) _ _ = subst (BriefAt c.args.file.now (c.args.at + 4))
-    c.in-Value.is c.brief_at.ensures in
-    let text = subst (BriefAt c.args.file.now (_ + 2)) c.in-Value-brief_at.is c.brief_at-then-pair_at.ensures in
-    record {
-      head = head;
-      place = place;
-      place_pair = c.pair_at.ensures
-          c.if-pair_at.true;
-      text = text;
-      text_pair = c.pair_at-then-pair_at.ensures c.if-pair_at-2.true;
-    }
+light_record-requires c = record {
+  head = c.light_head.ensures c.if-light_head.true;
+  place = c.in_ok-place.ensures;
+  place_pair = c.pair_at.ensures c.if-pair_at.true;
+  text = c.in_ok-text.ensures;
+  text_pair = c.pair_at-then-pair_at.ensures c.if-pair_at-2.true;
+}
 
 pub overflow_add-result : goal.overflow_add-result
 overflow_add-result c =
     let head = c.light_head.ensures c.if-light_head.true in
-    let place : BriefNumber c.args.file.now (c.args.at + 4) _ _ = subst (BriefAt c.args.file.now (c.args.at + 4))
-    c.in-Value.is c.brief_at.ensures in
-    let text = subst (BriefAt c.args.file.now (_ + 2)) c.in-Value-brief_at.is c.brief_at-then-pair_at.ensures in
+    let place = c.in_ok-place.ensures in
+    let text = c.in_ok-text.ensures in
     omega (arith, head.room, place.near, text.near)
 
 pub returns-then-pair_at-2 : goal.returns-then-pair_at-2
 returns-then-pair_at-2 c =
-    let head = c.light_head.ensures c.if-light_head.true in
-    let place : BriefNumber c.args.file.now (c.args.at + 4) _ _ = subst (BriefAt c.args.file.now (c.args.at + 4))
-    c.in-Value.is c.brief_at.ensures in
-    let text = subst (BriefAt c.args.file.now (_ + 2)) c.in-Value-brief_at.is c.brief_at-then-pair_at.ensures in
     rw c.light_record.ensures (light_item c.args.file.now c.args.at c.args.b
     (record {
-      head = head;
-      place = place;
-      place_pair = c.pair_at.ensures
-          c.if-pair_at.true;
-      text = text;
+      head = c.light_head.ensures c.if-light_head.true;
+      place = c.in_ok-place.ensures;
+      place_pair = c.pair_at.ensures c.if-pair_at.true;
+      text = c.in_ok-text.ensures;
       text_pair = c.pair_at-then-pair_at.ensures c.if-pair_at-2.true;
     }))

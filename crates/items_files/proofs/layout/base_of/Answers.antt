@@ -1,24 +1,18 @@
--- The tests of the definition, in its order.
-use borrow.Author.Tests.{eq-eqb, ne_eqb}
+-- By the tests.
+use Rattle.std.proofs.Common.{arith}
+use Rattle.std.proofs.lemmas.Grind.{common_steps}
+use Rattle.std.proofs.lemmas.Bool.Decides.{nat_tests}
 use Rattle.items_files.specs.Layout.{base}
 use Rattle.items_files.proofs.layout.base_of.Goals as goal
 
-pub returns-then-b-eq2 : goal.returns-then-b-eq2
+pub returns-in-2 : goal.returns-in-2
 unfolding base
-returns-then-b-eq2 c = search (eq-eqb, ne_eqb)
+returns-in-2 c = grind (arith, nat_tests, common_steps)
 
-pub returns-then-b-eq3 : goal.returns-then-b-eq3
+pub returns-in-3 : goal.returns-in-3
 unfolding base
-returns-then-b-eq3 c = search (eq-eqb, ne_eqb)
+returns-in-3 c = grind (arith, nat_tests, common_steps)
 
-pub returns-then-b-eq5 : goal.returns-then-b-eq5
+pub returns-in_default : goal.returns-in_default
 unfolding base
-returns-then-b-eq5 c = search (eq-eqb, ne_eqb)
-
-pub returns-then-b-eq8 : goal.returns-then-b-eq8
-unfolding base
-returns-then-b-eq8 c = search (eq-eqb, ne_eqb)
-
-pub returns : goal.returns
-unfolding base
-returns c = search (eq-eqb, ne_eqb)
+returns-in_default c = grind (arith, nat_tests, common_steps)

@@ -1,7 +1,8 @@
 -- The numbers passed, one by one or an item's ten at once, are the words before n (`Scanning`).
 use native.Mathlib.Omega.{arith}
 use Prim.Native.Nat.{◌+◌, ◌-◌}
-use mathlib.Core.Path.{sym, ◌∙◌}
+use mathlib.Core.Path.{sym, subst, ◌∙◌}
+use Rattle.items_files.specs.Glance.{EndAt}
 use Rattle.items_files.proofs.Reader.{next_place, scanning_start, scanning_word, scanning_over, scanning_wrong, scanning_cut, scanning_all, scanning_short}
 use Rattle.items_files.proofs.LightItems.{scanning_item}
 use Rattle.items_files.proofs.loading.scan.Goals as goal
@@ -12,63 +13,63 @@ loop-i-init c =
 
 pub overflow_add-i : goal.overflow_add-i
 overflow_add-i c =
-    let light = c.item_end-past.ensures c.if-past-gt0.true in
+    let light = subst (EndAt c.args.file.now c.loop-i.i c.loop-i.b) c.in-Some.is c.item_end.ensures in
     omega (arith, light.item.ahead, light.item.inside)
 
 pub bounds-file-i : goal.bounds-file-i
 bounds-file-i c =
-    let light = c.item_end-past.ensures c.if-past-gt0.true in
+    let light = subst (EndAt c.args.file.now c.loop-i.i c.loop-i.b) c.in-Some.is c.item_end.ensures in
     omega (arith, light.item.ahead, light.item.inside)
 
 pub overflow_cast-file : goal.overflow_cast-file
 overflow_cast-file c =
-    omega (arith, c.shared_slice_known-then-past-gt0-1.given (c.loop-i.i + 2))
+    omega (arith, c.shared_slice_known-in-Some-1.given (c.loop-i.i + 2))
 
 pub overflow_add-b : goal.overflow_add-b
 overflow_add-b c =
-    let light = c.item_end-past.ensures c.if-past-gt0.true in
+    let light = subst (EndAt c.args.file.now c.loop-i.i c.loop-i.b) c.in-Some.is c.item_end.ensures in
     omega (arith, light.fits)
 
 pub overflow_sub-past : goal.overflow_sub-past
 overflow_sub-past c =
-    let light = c.item_end-past.ensures c.if-past-gt0.true in
+    let light = subst (EndAt c.args.file.now c.loop-i.i c.loop-i.b) c.in-Some.is c.item_end.ensures in
     omega (arith, light.item.ahead, light.item.inside)
 
 pub bounds-file-past : goal.bounds-file-past
 bounds-file-past c =
-    let light = c.item_end-past.ensures c.if-past-gt0.true in
+    let light = subst (EndAt c.args.file.now c.loop-i.i c.loop-i.b) c.in-Some.is c.item_end.ensures in
     omega (arith, light.item.ahead, light.item.inside)
 
-pub overflow_cast-file-then-past-gt0 : goal.overflow_cast-file-then-past-gt0
-overflow_cast-file-then-past-gt0 c =
-    omega (arith, c.shared_slice_known-then-past-gt0-2-1.given (c.item_end-past.result - 1))
+pub overflow_cast-file-in-Some : goal.overflow_cast-file-in-Some
+overflow_cast-file-in-Some c =
+    omega (arith, c.shared_slice_known-in-Some-2-1.given (c.in-Some.past - 1))
 
 pub overflow_add-n : goal.overflow_add-n
 overflow_add-n c =
-    let light = c.item_end-past.ensures c.if-past-gt0.true in
+    let light = subst (EndAt c.args.file.now c.loop-i.i c.loop-i.b) c.in-Some.is c.item_end.ensures in
     omega (arith, light.item.ahead, light.item.inside, c.loop-i.invariant.few)
 
-pub loop-i-smaller-then-past-gt0 : goal.loop-i-smaller-then-past-gt0
-loop-i-smaller-then-past-gt0 c =
-    let light = c.item_end-past.ensures c.if-past-gt0.true in
+pub loop-i-smaller-in-Some : goal.loop-i-smaller-in-Some
+loop-i-smaller-in-Some c =
+    let light = subst (EndAt c.args.file.now c.loop-i.i c.loop-i.b) c.in-Some.is c.item_end.ensures in
     omega (arith, light.item.ahead, light.item.inside)
 
-pub loop-i-preserved-then-past-gt0 : goal.loop-i-preserved-then-past-gt0
-loop-i-preserved-then-past-gt0 c =
-    let light = c.item_end-past.ensures c.if-past-gt0.true in
+pub loop-i-preserved-in-Some : goal.loop-i-preserved-in-Some
+loop-i-preserved-in-Some c =
+    let light = subst (EndAt c.args.file.now c.loop-i.i c.loop-i.b) c.in-Some.is c.item_end.ensures in
     scanning_item c.args.file.now c.loop-i.b c.loop-i.n c.loop-i.i c.loop-i.invariant light.item (c.after_item-b.ensures ∙ rw (← light.start, ← light.depth))
 
-pub number_at-number-requires : goal.number_at-number-requires
-number_at-number-requires c = c.loop-i-test.true
+pub number_at-requires : goal.number_at-requires
+number_at-requires c = c.loop-i-test.true
 
 pub returns-then-word-gt-LARGEST_NUMBER : goal.returns-then-word-gt-LARGEST_NUMBER
 returns-then-word-gt-LARGEST_NUMBER c =
     scanning_over c.args.file.now c.loop-i.b c.loop-i.n c.loop-i.i c.loop-i.invariant
-    c.loop-i-test.true (sym c.in-Whole.is
-    ∙ c.number_at-number.ensures) c.base_of.ensures c.if-word-gt-LARGEST_NUMBER.true
+    c.loop-i-test.true (sym c.in-Ok.is
+    ∙ c.number_at.ensures) c.base_of.ensures c.if-word-gt-LARGEST_NUMBER.true
 
-pub overflow_add-n-in-Whole : goal.overflow_add-n-in-Whole
-overflow_add-n-in-Whole c =
+pub overflow_add-n-in-Ok : goal.overflow_add-n-in-Ok
+overflow_add-n-in-Ok c =
     omega (arith, c.loop-i.invariant.few)
 
 pub loop-i-smaller : goal.loop-i-smaller
@@ -76,25 +77,25 @@ loop-i-smaller c =
     omega (
       arith,
       (next_place c.args.file.now c.loop-i.i _ _ c.loop-i.invariant.inside
-          (sym c.in-Whole.is ∙ c.number_at-number.ensures)).0,
+          (sym c.in-Ok.is ∙ c.number_at.ensures)).0,
     )
 
 pub loop-i-preserved : goal.loop-i-preserved
 loop-i-preserved c =
     scanning_word c.args.file.now c.loop-i.b c.loop-i.n c.loop-i.i c.loop-i.invariant
     c.loop-i-test.true
-    (sym c.in-Whole.is ∙ c.number_at-number.ensures)
+    (sym c.in-Ok.is ∙ c.number_at.ensures)
     c.base_of.ensures c.if-word-gt-LARGEST_NUMBER.false c.after_word-b.ensures
 
-pub returns-in-Wrong : goal.returns-in-Wrong
-returns-in-Wrong c =
+pub returns-in-Err-Wrong : goal.returns-in-Err-Wrong
+returns-in-Err-Wrong c =
     scanning_wrong c.args.file.now c.loop-i.b c.loop-i.n c.loop-i.i c.loop-i.invariant
-    c.loop-i-test.true (sym c.in-Wrong.is ∙ c.number_at-number.ensures)
+    c.loop-i-test.true (cc)
 
-pub returns-in-Cut : goal.returns-in-Cut
-returns-in-Cut c =
+pub returns-in-Err-Cut : goal.returns-in-Err-Cut
+returns-in-Err-Cut c =
     scanning_cut c.args.file.now c.loop-i.b c.loop-i.n c.loop-i.i c.loop-i.invariant
-    c.loop-i-test.true (sym c.in-Cut.is ∙ c.number_at-number.ensures)
+    c.loop-i-test.true (cc)
 
 pub returns-then-b-eq0 : goal.returns-then-b-eq0
 returns-then-b-eq0 c =

@@ -1,25 +1,14 @@
--- The four tests in the order of the definition.
-use borrow.Author.Tests.{lt-ltb, le-ltb}
+-- By the tests.
+use Rattle.std.proofs.Common.{arith}
+use Rattle.std.proofs.lemmas.Grind.{common_steps}
+use Rattle.std.proofs.lemmas.Bool.Decides.{nat_tests}
 use Rattle.items_files.specs.Layout.{goes_back}
 use Rattle.items_files.proofs.storing.goes_back.Goals as goal
 
-pub returns-then-r-last : goal.returns-then-r-last
-unfolding goes_back
-returns-then-r-last c = rw (lt-ltb _ _ c.if-r-last.true)
-
-pub returns-then-r : goal.returns-then-r
-unfolding goes_back
-returns-then-r c = rw (le-ltb _ _ c.if-r-last.false, lt-ltb _ _ c.if-r.true)
-
 pub returns-then-r-2 : goal.returns-then-r-2
 unfolding goes_back
-returns-then-r-2 c = rw (le-ltb _ _ c.if-r-last.false, le-ltb _ _ c.if-r.false, lt-ltb _ _ c.if-r-2.true)
+returns-then-r-2 c = grind (arith, nat_tests, common_steps)
 
-pub returns : goal.returns
+pub returns-else-r-2 : goal.returns-else-r-2
 unfolding goes_back
-returns c =
-    rw (
-      le-ltb _ _ c.if-r-last.false,
-      le-ltb _ _ c.if-r.false,
-      le-ltb _ _ c.if-r-2.false,
-    )
+returns-else-r-2 c = grind (arith, nat_tests, common_steps)

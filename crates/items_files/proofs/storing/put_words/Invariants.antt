@@ -1,10 +1,7 @@
-use Prim.Native.Nat.{◌-◌}
-use lib.ListN.{length}
+use Prim.Native.Nat.{◌*◌}
+use Rattle.items.specs.Items.{record_words}
 use Rattle.items_files.proofs.Writer.{Filing}
 use Rattle.items_files.proofs.storing.put_words.Given as goal
 
-abbrev pub invariant-loop-i : goal.invariant-loop-i
-invariant-loop-i l = Filing l.words l.initial.out l.out l.at l.last l.i
-
-abbrev pub decreases-loop-i : goal.decreases-loop-i
-decreases-loop-i l = length l.words - l.i
+abbrev pub invariant-loop-item : goal.invariant-loop-item
+invariant-loop-item l = Filing l.words l.initial.out l.out l.at l.last (l.item * record_words)

@@ -1,6 +1,5 @@
 -- The loop keeps: up to the place i the string is passed.
 use native.Mathlib.Omega.{arith}
-use Prim.Native.Nat.{◌-◌}
 use Rattle.items.specs.declared.Quotes.TheVariants.{Double}
 use Rattle.items.specs.declared.Phase.TheVariants as ph
 use Rattle.steps.proofs.Letters.{passes_none, passes_on}

@@ -5,15 +5,15 @@ use lib.ListN.{length}
 use Rattle.items_writing.proofs.QuotedBytes.{quoted_size, quoted_by_lem}
 use Rattle.items_writing.proofs.quoting.shown_length.Goals as goal
 
-pub returns-in-AsIs : goal.returns-in-AsIs
-returns-in-AsIs c = rw c.in-AsIs.is
+pub returns-in-None : goal.returns-in-None
+returns-in-None c = rw c.in-None.is
 
-pub returns-in-Within : goal.returns-in-Within
-returns-in-Within c =
-    rw c.in-Within.is (omega (
+pub returns-in-Some : goal.returns-in-Some
+returns-in-Some c =
+    rw c.in-Some.is (omega (
       arith,
       c.escaped_length.ensures.0,
       quoted_size c.closing.result c.args.t.now,
       ap length
-          (quoted_by_lem c.in-Within.k c.args.t.now c.closing.ensures),
+          (quoted_by_lem c.in-Some.k c.args.t.now c.closing.ensures),
     ))

@@ -1,12 +1,11 @@
--- The three tests in their order.
-use borrow.Author.Tests.{eq-eqb, ne_eqb}
+-- By the tests.
+use Rattle.std.proofs.Common.{arith}
+use Rattle.std.proofs.lemmas.Grind.{common_steps}
+use Rattle.std.proofs.lemmas.Bool.Decides.{nat_tests}
 use Rattle.items_writing.proofs.records.is_extent.Goals as goal
 
-pub returns-then-w-ne-IN_SOURCE : goal.returns-then-w-ne-IN_SOURCE
-returns-then-w-ne-IN_SOURCE c = rw (ne_eqb _ _ c.if-w-ne-IN_SOURCE.true)
-
 pub returns-then-w : goal.returns-then-w
-returns-then-w c = rw (eq-eqb _ _ c.if-w-ne-IN_SOURCE.false, ne_eqb _ _ c.if-w.true)
+returns-then-w c = grind (arith, nat_tests, common_steps)
 
-pub returns : goal.returns
-returns c = rw (eq-eqb _ _ c.if-w-ne-IN_SOURCE.false, eq-eqb _ _ c.if-w.false)
+pub returns-else-w : goal.returns-else-w
+returns-else-w c = grind (arith, nat_tests, common_steps)

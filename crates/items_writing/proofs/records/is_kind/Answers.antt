@@ -1,12 +1,18 @@
--- The three ranges of kinds.
-use Rattle.items_writing.proofs.RightRecords.{kind_low, kind_between, kind_error}
+-- By the tests.
+use Rattle.std.proofs.Common.{arith}
+use Rattle.std.proofs.lemmas.Grind.{common_steps}
+use Rattle.std.proofs.lemmas.Bool.Decides.{nat_tests}
+use Rattle.items_writing.specs.Records.{is_kind}
 use Rattle.items_writing.proofs.records.is_kind.Goals as goal
 
 pub returns-then-k-le-DOT : goal.returns-then-k-le-DOT
-returns-then-k-le-DOT c = kind_low _ c.if-k-le-DOT.true
+unfolding is_kind
+returns-then-k-le-DOT c = grind (arith, nat_tests, common_steps)
 
-pub returns-then-k-le-FIRST_ERROR : goal.returns-then-k-le-FIRST_ERROR
-returns-then-k-le-FIRST_ERROR c = kind_between _ c.if-k-le-DOT.false c.if-k-le-FIRST_ERROR.true
+pub returns-then-k-gt-FIRST_ERROR : goal.returns-then-k-gt-FIRST_ERROR
+unfolding is_kind
+returns-then-k-gt-FIRST_ERROR c = grind (arith, nat_tests, common_steps)
 
-pub returns : goal.returns
-returns c = kind_error _ c.if-k-le-DOT.false c.if-k-le-FIRST_ERROR.false
+pub returns-else-k-gt-FIRST_ERROR : goal.returns-else-k-gt-FIRST_ERROR
+unfolding is_kind
+returns-else-k-gt-FIRST_ERROR c = grind (arith, nat_tests, common_steps)

@@ -1,32 +1,23 @@
--- The three tests of the definition in their order; a text that is all of its extent is whole with it (law `extent_right`).
-use mathlib.Core.Path.{sym, ◌∙◌}
+-- The tests of the definition; a text that is all of its extent is whole with it (law `extent_right`).
+use Rattle.std.proofs.Common.{arith}
+use Rattle.std.proofs.lemmas.Grind.{common_steps}
+use Rattle.std.proofs.lemmas.Bool.Decides.{nat_tests}
 use Rattle.items_writing.specs.Records.{is_right}
 use Rattle.items_writing.proofs.RightRecords.{extent_right}
 use Rattle.items_writing.proofs.records.is_right.Goals as goal
 
+pub text_right-requires : goal.text_right-requires
+unfolding is_right
+text_right-requires c = grind (arith, nat_tests, common_steps, extent_right)
+
 pub returns-then-is_extent : goal.returns-then-is_extent
 unfolding is_right
-returns-then-is_extent c =
-    let kind = sym c.is_kind.ensures ∙ c.if-is_kind.true in
-    let whole = sym c.is_whole.ensures ∙ c.if-is_whole.true in
-    simp (kind, whole) (sym (extent_right _ _ _ (sym c.is_extent.ensures ∙ c.if-is_extent.true) whole))
+returns-then-is_extent c = grind (arith, nat_tests, common_steps, extent_right)
 
-pub text_right-requires : goal.text_right-requires
-text_right-requires c = sym c.is_whole.ensures ∙ c.if-is_whole.true
-
-pub returns-then-is_whole : goal.returns-then-is_whole
+pub returns-else-is_extent : goal.returns-else-is_extent
 unfolding is_right
-returns-then-is_whole c =
-    simp (
-      sym c.is_kind.ensures ∙ c.if-is_kind.true,
-      sym c.is_whole.ensures ∙ c.if-is_whole.true,
-    )
-    c.text_right.ensures
+returns-else-is_extent c = grind (arith, nat_tests, common_steps, extent_right)
 
-pub returns-then-is_kind : goal.returns-then-is_kind
+pub returns-else-is_whole : goal.returns-else-is_whole
 unfolding is_right
-returns-then-is_kind c = simp (sym c.is_kind.ensures ∙ c.if-is_kind.true, sym c.is_whole.ensures ∙ c.if-is_whole.false)
-
-pub returns : goal.returns
-unfolding is_right
-returns c = simp (sym c.is_kind.ensures ∙ c.if-is_kind.false)
+returns-else-is_whole c = grind (arith, nat_tests, common_steps, extent_right)

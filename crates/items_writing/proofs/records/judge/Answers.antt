@@ -1,6 +1,5 @@
 -- The invariant: from this record on the definition says what it says from the first.
 use borrow.Author.Tests.{not-true, not-false}
-use Prim.Native.Nat.{◌-◌}
 use mathlib.Core.Path.{refl, sym, ap, ◌∙◌}
 use native.Mathlib.Omega.{arith}
 use Rattle.items_writing.specs.declared.WriteWords.{WriteWords}

@@ -1,27 +1,26 @@
--- Each text source is a case of the definition.
-use borrow.Author.Tests.{eq-eqb, ne_eqb}
-use Rattle.items_writing.specs.Records.{text_of}
-use Rattle.items_writing.proofs.RightRecords.{right_is, text_in_source, text_in_memory}
+-- By the tests.
+use Rattle.std.proofs.Common.{arith}
+use Rattle.std.proofs.lemmas.Grind.{common_steps}
+use Rattle.std.proofs.lemmas.Bool.Decides.{nat_tests}
+use Rattle.items_writing.specs.Records.{is_right, text_right, text_of}
 use Rattle.items_writing.proofs.records.text_of.Goals as goal
 
 pub part-requires : goal.part-requires
-part-requires c =
-    text_in_source c.args.source.now c.args.text.now c.args.w c.if-w-eq-IN_SOURCE.true
-    (right_is c.args.source.now c.args.text.now c.args.w c.requires).text_right_holds
+unfolding is_right text_right
+part-requires c = grind (arith, nat_tests, common_steps)
 
-pub returns-then-w-eq-IN_SOURCE : goal.returns-then-w-eq-IN_SOURCE
+pub part-requires-in-2 : goal.part-requires-in-2
+unfolding is_right text_right
+part-requires-in-2 c = grind (arith, nat_tests, common_steps)
+
+pub returns-in-1 : goal.returns-in-1
 unfolding text_of
-returns-then-w-eq-IN_SOURCE c = simp (eq-eqb _ _ c.if-w-eq-IN_SOURCE.true) c.part.ensures
+returns-in-1 c = grind (arith, nat_tests, common_steps)
 
-pub part-requires-then-w-eq-IN_MEMORY : goal.part-requires-then-w-eq-IN_MEMORY
-part-requires-then-w-eq-IN_MEMORY c =
-    text_in_memory c.args.source.now c.args.text.now c.args.w c.if-w-eq-IN_SOURCE.false c.if-w-eq-IN_MEMORY.true
-    (right_is c.args.source.now c.args.text.now c.args.w c.requires).text_right_holds
-
-pub returns-then-w-eq-IN_MEMORY : goal.returns-then-w-eq-IN_MEMORY
+pub returns-in-2 : goal.returns-in-2
 unfolding text_of
-returns-then-w-eq-IN_MEMORY c = simp (ne_eqb _ _ c.if-w-eq-IN_SOURCE.false, eq-eqb _ _ c.if-w-eq-IN_MEMORY.true) c.part-then-w-eq-IN_MEMORY.ensures
+returns-in-2 c = grind (arith, nat_tests, common_steps)
 
-pub returns : goal.returns
+pub returns-in_default : goal.returns-in_default
 unfolding text_of
-returns c = simp (ne_eqb _ _ c.if-w-eq-IN_SOURCE.false, ne_eqb _ _ c.if-w-eq-IN_MEMORY.false)
+returns-in_default c = grind (arith, nat_tests, common_steps)

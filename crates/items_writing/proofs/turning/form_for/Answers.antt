@@ -1,24 +1,22 @@
--- By the kind, an identifier by whether it reads back bare.
-use mathlib.Core.Path.{sym, ◌∙◌}
-use borrow.Author.Tests.{eq-eqb, ne_eqb}
+-- By the tests.
+use Rattle.std.proofs.Common.{arith}
+use Rattle.std.proofs.lemmas.Grind.{common_steps}
+use Rattle.std.proofs.lemmas.Bool.Decides.{nat_tests}
 use Rattle.items_writing.specs.Pieces.{form_for}
 use Rattle.items_writing.proofs.turning.form_for.Goals as goal
 
-pub reads_bare-requires : goal.reads_bare-requires
-reads_bare-requires c = c.requires
-
-pub returns-then-reads_bare : goal.returns-then-reads_bare
+pub returns-in-27 : goal.returns-in-27
 unfolding form_for
-returns-then-reads_bare c = simp (eq-eqb _ _ c.if-k-eq-IDENTIFIER.true, sym c.reads_bare.ensures ∙ c.if-reads_bare.true)
+returns-in-27 c = grind (arith, nat_tests, common_steps)
 
-pub returns-then-k-eq-IDENTIFIER : goal.returns-then-k-eq-IDENTIFIER
+pub returns-in-27-2 : goal.returns-in-27-2
 unfolding form_for
-returns-then-k-eq-IDENTIFIER c = simp (eq-eqb _ _ c.if-k-eq-IDENTIFIER.true, sym c.reads_bare.ensures ∙ c.if-reads_bare.false)
+returns-in-27-2 c = grind (arith, nat_tests, common_steps)
 
-pub returns-then-k-eq-STRING_LITERAL : goal.returns-then-k-eq-STRING_LITERAL
+pub returns-in-30 : goal.returns-in-30
 unfolding form_for
-returns-then-k-eq-STRING_LITERAL c = simp (ne_eqb _ _ c.if-k-eq-IDENTIFIER.false, eq-eqb _ _ c.if-k-eq-STRING_LITERAL.true)
+returns-in-30 c = grind (arith, nat_tests, common_steps)
 
-pub returns : goal.returns
+pub returns-in_default : goal.returns-in_default
 unfolding form_for
-returns c = simp (ne_eqb _ _ c.if-k-eq-IDENTIFIER.false, ne_eqb _ _ c.if-k-eq-STRING_LITERAL.false)
+returns-in_default c = grind (arith, nat_tests, common_steps)

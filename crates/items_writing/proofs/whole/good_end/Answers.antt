@@ -1,6 +1,5 @@
 -- The loop keeps: up to the place i the text is passed, by ASCII and by characters past it.
 use native.Mathlib.Omega.{arith}
-use Prim.Native.Nat.{◌-◌}
 use Rattle.chars.proofs.Wide.{passed_on, passed_wides}
 use Rattle.items_writing.proofs.whole.good_end.Goals as goal
 

@@ -1,15 +1,14 @@
--- The places first, then the characters.
-use native.Mathlib.Omega.{arith}
-use Rattle.items_writing.proofs.RightRecords.{whole_back, whole_past, whole_told}
+-- By the tests.
+use Rattle.std.proofs.Common.{arith}
+use Rattle.std.proofs.lemmas.Grind.{common_steps}
+use Rattle.std.proofs.lemmas.Bool.Decides.{nat_tests}
+use Rattle.items_writing.specs.Records.{is_whole}
 use Rattle.items_writing.proofs.whole.is_whole.Goals as goal
 
-pub returns-then-to-from : goal.returns-then-to-from
-returns-then-to-from c = whole_back c.args.s.now c.args.a c.args.b c.if-to-from.true
+pub returns-then-to-s : goal.returns-then-to-s
+unfolding is_whole
+returns-then-to-s c = grind (arith, nat_tests, common_steps)
 
-pub returns-then-s-to : goal.returns-then-s-to
-returns-then-s-to c =
-    whole_past c.args.s.now c.args.a c.args.b (omega arith) c.if-s-to.true
-
-pub returns : goal.returns
-returns c =
-    whole_told c.args.s.now c.args.a c.args.b (omega arith) (omega arith) c.is_good.ensures
+pub returns-else-to-s : goal.returns-else-to-s
+unfolding is_whole
+returns-else-to-s c = grind (arith, nat_tests, common_steps)

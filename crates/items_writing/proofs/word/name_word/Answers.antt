@@ -1,13 +1,12 @@
 -- A word of the table, a word of one byte, any other by its first byte.
-use native.Mathlib.Omega.{arith}
+use Rattle.std.proofs.Common.{arith}
+use Rattle.std.proofs.lemmas.Grind.{common_steps}
+use Rattle.std.proofs.lemmas.Bool.Decides.{nat_tests}
 use Rattle.items_writing.proofs.WordTurns.{name_kind, name_short, name_long}
 use Rattle.items_writing.proofs.word.name_word.Goals as goal
 
-pub returns-then-word_kind-ne-IDENTIFIER : goal.returns-then-word_kind-ne-IDENTIFIER
-returns-then-word_kind-ne-IDENTIFIER c = name_kind _ c.word_kind.ensures c.if-word_kind-ne-IDENTIFIER.true
-
 pub returns-then-raw-le1 : goal.returns-then-raw-le1
-returns-then-raw-le1 c = name_short _ c.word_kind.ensures c.if-word_kind-ne-IDENTIFIER.false c.if-raw-le1.true
+returns-then-raw-le1 c = grind (arith, nat_tests, common_steps, name_kind, name_short, name_long)
 
-pub returns : goal.returns
-returns c = name_long _ c.word_kind.ensures c.if-word_kind-ne-IDENTIFIER.false (omega (arith, c.if-raw-le1.false))
+pub returns-else-raw-le1 : goal.returns-else-raw-le1
+returns-else-raw-le1 c = grind (arith, nat_tests, common_steps, name_kind, name_short, name_long)

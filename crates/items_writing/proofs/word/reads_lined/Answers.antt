@@ -7,8 +7,8 @@ use Rattle.items_writing.proofs.word.reads_lined.Goals as goal
 pub stand_on-requires : goal.stand_on-requires
 stand_on-requires c = (c.requires, omega arith)
 
-pub returns-in-Ends : goal.returns-in-Ends
-returns-in-Ends c = c.is_lined.ensures ∙ ap lines_as (sym c.in-Ends.is ∙ c.stand_on.ensures)
+pub returns-in-Some : goal.returns-in-Some
+returns-in-Some c = c.is_lined.ensures ∙ ap lines_as (sym c.in-Some.is ∙ c.stand_on.ensures)
 
-pub returns-in-Apart : goal.returns-in-Apart
-returns-in-Apart c = ap lines_as (sym c.in-Apart.is ∙ c.stand_on.ensures)
+pub returns-in-None : goal.returns-in-None
+returns-in-None c = ap lines_as (sym c.in-None.is ∙ c.stand_on.ensures)

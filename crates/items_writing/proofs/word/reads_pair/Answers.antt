@@ -44,15 +44,15 @@ returns-then-starts_at c =
 pub stand_on-requires : goal.stand_on-requires
 stand_on-requires c = (run_inside c.args.t.now c.requires _ c.ascii_run-k.ensures, omega arith)
 
-pub returns-in-Ends : goal.returns-in-Ends
-returns-in-Ends c =
+pub returns-in-Some : goal.returns-in-Some
+returns-in-Some c =
     pair_ends c.args.t.now c.requires _ c.ascii_run-k.ensures
     c.stand_on.ensures
     (sym c.if-starts_at.false ∙ c.starts_at.ensures)
-    c.in-Ends.is
+    c.in-Some.is
     c.is_pair_of.ensures
 
-pub returns-in-Apart : goal.returns-in-Apart
-returns-in-Apart c =
+pub returns-in-None : goal.returns-in-None
+returns-in-None c =
     pair_apart c.args.t.now c.requires _ c.ascii_run-k.ensures c.stand_on.ensures
-    (sym c.if-starts_at.false ∙ c.starts_at.ensures) c.in-Apart.is
+    (sym c.if-starts_at.false ∙ c.starts_at.ensures) c.in-None.is

@@ -1,12 +1,10 @@
 -- The invariant: from the phase and the place that the loop has come to, the machine answers what it answers from the first. A turn passes
 -- a run of characters that leave it in its phase, and then takes one step.
-use Prim.Native.Nat.{◌-◌}
 use mathlib.Core.Path.{refl, sym, ◌∙◌}
 use native.Mathlib.Omega.{arith}
 use borrow.Author.Rules.{rules}
-use Rattle.chars.proofs.Chars.{char_at}
+use Rattle.chars.proofs.Chars.{char_at, nothing_at}
 use Rattle.chars.proofs.Width.{wide}
-use Rattle.steps.proofs.Turn.{none_bad, none_cut, none_end}
 use Rattle.items_writing.proofs.WordTurns.{go_eat, go_stop, go_deep, go_run, go_out, go_closed, front_length}
 use Rattle.items_writing.proofs.word.stand_on.Goals as goal
 
@@ -86,64 +84,14 @@ close-requires c =
     let on = go_run t c.args.last turn.phase turn.at run.result turn.invariant.0 run.ensures in
     omega (arith, turn.invariant.1, on.0, front_length t c.args.last run.result on.1)
 
-pub returns-in-Bad : goal.returns-in-Bad
-returns-in-Bad c =
+pub returns-in_default : goal.returns-in_default
+returns-in_default c =
     let run = c.ascii_run-at in
     let turn = c.loop-at in
     let t = c.args.t.now in
     let on = go_run t c.args.last turn.phase turn.at run.result turn.invariant.0 run.ensures in
-    let none = none_bad t run.result (sym c.in-Bad.is ∙ c.decode_at.ensures) in
+    let none = nothing_at t run.result c.decode_at.result c.decode_at.ensures c.in_default.not-Char in
     c.close.ensures ∙ (go_closed t c.args.last turn.phase run.result on.1 none ∙ sym (turn.invariant.2 ∙ on.2))
-
-pub slice_bounds-close-end-in-Cut : goal.slice_bounds-close-end-in-Cut
-slice_bounds-close-end-in-Cut c =
-    let run = c.ascii_run-at in
-    let turn = c.loop-at in
-    let t = c.args.t.now in
-    let on = go_run t c.args.last turn.phase turn.at run.result turn.invariant.0 run.ensures in
-    sym (front_length t c.args.last run.result on.1)
-
-pub close-requires-in-Cut : goal.close-requires-in-Cut
-close-requires-in-Cut c =
-    let run = c.ascii_run-at in
-    let turn = c.loop-at in
-    let t = c.args.t.now in
-    let on = go_run t c.args.last turn.phase turn.at run.result turn.invariant.0 run.ensures in
-    omega (arith, turn.invariant.1, on.0, front_length t c.args.last run.result on.1)
-
-pub returns-in-Cut : goal.returns-in-Cut
-returns-in-Cut c =
-    let run = c.ascii_run-at in
-    let turn = c.loop-at in
-    let t = c.args.t.now in
-    let on = go_run t c.args.last turn.phase turn.at run.result turn.invariant.0 run.ensures in
-    let none = none_cut t run.result (sym c.in-Cut.is ∙ c.decode_at.ensures) in
-    c.close-in-Cut.ensures ∙ (go_closed t c.args.last turn.phase run.result on.1 none ∙ sym (turn.invariant.2 ∙ on.2))
-
-pub slice_bounds-close-end-in-End : goal.slice_bounds-close-end-in-End
-slice_bounds-close-end-in-End c =
-    let run = c.ascii_run-at in
-    let turn = c.loop-at in
-    let t = c.args.t.now in
-    let on = go_run t c.args.last turn.phase turn.at run.result turn.invariant.0 run.ensures in
-    sym (front_length t c.args.last run.result on.1)
-
-pub close-requires-in-End : goal.close-requires-in-End
-close-requires-in-End c =
-    let run = c.ascii_run-at in
-    let turn = c.loop-at in
-    let t = c.args.t.now in
-    let on = go_run t c.args.last turn.phase turn.at run.result turn.invariant.0 run.ensures in
-    omega (arith, turn.invariant.1, on.0, front_length t c.args.last run.result on.1)
-
-pub returns-in-End : goal.returns-in-End
-returns-in-End c =
-    let run = c.ascii_run-at in
-    let turn = c.loop-at in
-    let t = c.args.t.now in
-    let on = go_run t c.args.last turn.phase turn.at run.result turn.invariant.0 run.ensures in
-    let none = none_end t run.result (sym c.in-End.is ∙ c.decode_at.ensures) in
-    c.close-in-End.ensures ∙ (go_closed t c.args.last turn.phase run.result on.1 none ∙ sym (turn.invariant.2 ∙ on.2))
 
 pub close-requires-2 : goal.close-requires-2
 close-requires-2 c = omega (arith, c.loop-at.invariant.0, c.loop-at.invariant.1)

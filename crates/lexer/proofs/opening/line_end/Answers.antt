@@ -1,10 +1,7 @@
 -- At each place the line's end is what it was from the start.
-use Prim.Native.Nat.{◌-◌}
 use mathlib.Core.Path.{sym, ◌∙◌}
 use native.Mathlib.Omega.{arith}
 use borrow.Author.Tests.{eq-eqb, ne_eqb}
-use Rattle.laws.proofs.Choice.{impossible}
-use Rattle.chars.specs.declared.Decoded.TheVariants as decoded
 use Rattle.chars.proofs.Width.{wide}
 use Rattle.lexer.proofs.CharacterAt.{char_found}
 use Rattle.lexer.proofs.Opens.{line_stop, line_on, line_none}
@@ -29,17 +26,5 @@ loop-code-preserved c =
     sym (line_on c.args.source.now c.loop-code.at c.in-Char.code c.in-Char.next
     (sym c.in-Char.is ∙ c.decode_at.ensures) (ne_eqb _ _ c.if-code-eq-NEWLINE.false)) ∙ c.loop-code.invariant
 
-pub returns-in-Bad : goal.returns-in-Bad
-returns-in-Bad c = line_none c.args.source.now c.loop-code.at decoded.Bad
-    (sym c.in-Bad.is ∙ c.decode_at.ensures) (λ d n z. impossible cc)
-    ∙ c.loop-code.invariant
-
-pub returns-in-Cut : goal.returns-in-Cut
-returns-in-Cut c = line_none c.args.source.now c.loop-code.at decoded.Cut
-    (sym c.in-Cut.is ∙ c.decode_at.ensures) (λ d n z. impossible cc)
-    ∙ c.loop-code.invariant
-
-pub returns-in-End : goal.returns-in-End
-returns-in-End c = line_none c.args.source.now c.loop-code.at decoded.End
-    (sym c.in-End.is ∙ c.decode_at.ensures) (λ d n z. impossible cc)
-    ∙ c.loop-code.invariant
+pub returns : goal.returns
+returns c = line_none c.args.source.now c.loop-code.at c.decode_at.result c.decode_at.ensures c.in_default.not-Char ∙ c.loop-code.invariant

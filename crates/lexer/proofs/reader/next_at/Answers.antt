@@ -14,23 +14,23 @@ next_item-requires c = (c.if-source-gt-LIMIT.false, omega arith)
 pub returns-then-text-bytes : goal.returns-then-text-bytes
 returns-then-text-bytes c =
     reply_room c.args.source.now c.args.position c.args.text.now c.if-source-gt-LIMIT.false
-    c.in-One.nine c.in-One.after (sym c.in-One.is ∙ c.next_item.ensures)
+    c.in-Some.found.nine c.in-Some.found.after (sym c.in-Some.is ∙ c.next_item.ensures)
     c.free_after-bytes.result c.free_after-bytes.ensures c.if-text-bytes.true
 
 pub put_text-requires : goal.put_text-requires
 put_text-requires c =
     reply_fits c.args.source.now c.args.position c.args.text.now c.if-source-gt-LIMIT.false
-    c.in-One.nine c.in-One.after (sym c.in-One.is ∙ c.next_item.ensures)
+    c.in-Some.found.nine c.in-Some.found.after (sym c.in-Some.is ∙ c.next_item.ensures)
     c.free_after-bytes.result c.free_after-bytes.ensures c.if-text-bytes.false
 
-pub returns-else-text-bytes : goal.returns-else-text-bytes
-returns-else-text-bytes c =
+pub returns : goal.returns
+returns c =
     reply_item c.args.source.now c.args.position c.args.text.now c.if-source-gt-LIMIT.false
-    c.in-One.nine c.in-One.after (sym c.in-One.is ∙ c.next_item.ensures)
+    c.in-Some.found.nine c.in-Some.found.after (sym c.in-Some.is ∙ c.next_item.ensures)
     c.free_after-bytes.result c.free_after-bytes.ensures c.if-text-bytes.false
     c.depth_after.result c.depth_after.ensures c.put_text.ensures
 
-pub returns-in-End : goal.returns-in-End
-returns-in-End c =
+pub returns-in_default : goal.returns-in_default
+returns-in_default c =
     reply_end c.args.source.now c.args.position
-    c.args.text.now c.if-source-gt-LIMIT.false (sym c.in-End.is ∙ c.next_item.ensures)
+    c.args.text.now c.if-source-gt-LIMIT.false (sym c.in_default.is ∙ c.next_item.ensures)

@@ -6,10 +6,11 @@ use Rattle.lexer.proofs.reading.begin_at.Goals as goal
 pub begin_string-requires : goal.begin_string-requires
 begin_string-requires c = c.quote_at.ensures c.if-quote_at.true
 
-pub returns-in-At : goal.returns-in-At
-returns-in-At c =
-    first_stands c.args.source.now c.args.at c.in-At.code c.in-At.start c.in-At.next c.first_phase.result
-    (sym c.consume_whitespace.ensures ∙ c.in-At.is) c.first_phase.ensures
+pub returns-in-Some : goal.returns-in-Some
+returns-in-Some c =
+    let f = c.in-Some.first in
+    first_stands c.args.source.now c.args.at f.code f.at f.past c.first_phase.result
+    (sym c.consume_whitespace.ensures ∙ c.in-Some.is) c.first_phase.ensures
 
-pub returns-in-Nothing : goal.returns-in-Nothing
-returns-in-Nothing c = sym c.consume_whitespace.ensures ∙ c.in-Nothing.is
+pub returns-in-None : goal.returns-in-None
+returns-in-None c = sym c.consume_whitespace.ensures ∙ c.in-None.is

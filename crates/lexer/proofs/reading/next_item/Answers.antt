@@ -4,30 +4,30 @@ use Rattle.lexer.specs.Reading.{turn}
 use Rattle.lexer.proofs.Nexts.{seeking, seeks_moved, seeks_on, seeks_given, seeks_end, found_ends}
 use Rattle.lexer.proofs.reading.next_item.Goals as goal
 
-pub loop-nine-init : goal.loop-nine-init
-loop-nine-init c = seeking c.args.source.now c.args.free c.args.spot c.requires.1
+pub loop-found-init : goal.loop-found-init
+loop-found-init c = seeking c.args.source.now c.args.free c.args.spot c.requires.1
 
 pub turn_at-requires : goal.turn_at-requires
-turn_at-requires c = (c.requires.0, c.loop-nine.invariant.behind)
+turn_at-requires c = (c.requires.0, c.loop-found.invariant.behind)
 
-pub loop-nine-smaller : goal.loop-nine-smaller
-loop-nine-smaller c =
-    (seeks_moved c.args.source.now c.args.free c.args.spot c.loop-nine.p c.loop-nine.invariant
-    c.in-One.nine c.in-One.q (sym c.in-One.is ∙ c.turn_at.ensures)).smaller
+pub loop-found-smaller : goal.loop-found-smaller
+loop-found-smaller c =
+    (seeks_moved c.args.source.now c.args.free c.args.spot c.loop-found.p c.loop-found.invariant
+    c.in-Some.found.nine c.in-Some.found.after (sym c.in-Some.is ∙ c.turn_at.ensures)).smaller
 
-pub loop-nine-preserved : goal.loop-nine-preserved
-loop-nine-preserved c =
+pub loop-found-preserved : goal.loop-found-preserved
+loop-found-preserved c =
     seeks_on c.args.source.now
-    c.args.free c.args.spot c.loop-nine.p c.loop-nine.invariant c.in-One.nine c.in-One.q
-    (sym c.in-One.is ∙ c.turn_at.ensures) (sym c.skips.ensures ∙ c.if-skips.true)
+    c.args.free c.args.spot c.loop-found.p c.loop-found.invariant c.in-Some.found.nine c.in-Some.found.after
+    (sym c.in-Some.is ∙ c.turn_at.ensures) (sym c.skips.ensures ∙ c.if-not-skips.false)
 
-pub returns-else-skips : goal.returns-else-skips
-returns-else-skips c =
+pub returns-then-not-skips : goal.returns-then-not-skips
+returns-then-not-skips c =
     seeks_given c.args.source.now c.args.free
-    c.args.spot c.loop-nine.p c.loop-nine.invariant c.in-One.nine c.in-One.q
-    (sym c.in-One.is ∙ c.turn_at.ensures) (sym c.skips.ensures ∙ c.if-skips.false)
+    c.args.spot c.loop-found.p c.loop-found.invariant c.in-Some.found.nine c.in-Some.found.after
+    (sym c.in-Some.is ∙ c.turn_at.ensures) (sym c.skips.ensures ∙ c.if-not-skips.true)
 
-pub returns-in-End : goal.returns-in-End
-returns-in-End c =
-    seeks_end c.args.source.now c.args.free c.args.spot c.loop-nine.p c.loop-nine.invariant (found_ends c.args.free
-    (turn c.args.source.now c.loop-nine.p) (sym c.in-End.is ∙ c.turn_at.ensures))
+pub returns : goal.returns
+returns c =
+    seeks_end c.args.source.now c.args.free c.args.spot c.loop-found.p c.loop-found.invariant (found_ends c.args.free
+    (turn c.args.source.now c.loop-found.p) (sym c.in_default.is ∙ c.turn_at.ensures))

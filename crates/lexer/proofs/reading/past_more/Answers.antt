@@ -2,7 +2,7 @@
 use borrow.Author.Tests.{leb-true}
 use native.Mathlib.Omega.{arith}
 use mathlib.Core.Path.{refl, sym, ap, ◌∙◌}
-use Prim.Native.Nat.{ℕ, ◌-◌, ◌≤◌}
+use Prim.Native.Nat.{ℕ, ◌≤◌}
 use lib.ListN.{drop, length-drop}
 use Rattle.laws.specs.Texts.{span}
 use Rattle.laws.proofs.Runs.{span_le}
@@ -15,30 +15,30 @@ use Rattle.lexer.proofs.reading.past_more.Lts as lts
 use Rattle.lexer.proofs.reading.past_more.Reads as reads
 use Rattle.lexer.proofs.reading.past_more.Goals as goal
 
-some : (c : lts.Then1 tie.the-claims reads.Pre reads.Post goal.the-invariant-loop-n goal.the-decreases-loop-n) → 1 ≤ span blank (drop c.loop-n.at c.args.source.now)
-some c = leb-true 1 (span blank (drop c.loop-n.at c.args.source.now)) (sym c.blank_at.ensures ∙ c.if-blank_at.true)
+some : (c : lts.Else1 tie.the-claims reads.Pre reads.Post goal.the-invariant-loop goal.the-decreases-loop) → 1 ≤ span blank (drop c.loop.at c.args.source.now)
+some c = leb-true 1 (span blank (drop c.loop.at c.args.source.now)) (sym c.blank_at.ensures ∙ c.if-not-blank_at.false)
 
-pub loop-n-init : goal.loop-n-init
-loop-n-init c = (omega arith, refl)
+pub loop-init : goal.loop-init
+loop-init c = (omega arith, refl)
 
 pub overflow_add-at : goal.overflow_add-at
 overflow_add-at c =
-    let a = c.loop-n.at in
+    let a = c.loop.at in
     let s = c.args.source.now in
     omega (arith, some c.before, span_le blank (drop a s), length-drop a s)
 
-pub loop-n-preserved : goal.loop-n-preserved
-loop-n-preserved c = (
-  omega (arith, c.loop-n.invariant.0),
-  blanks c.args.source.now 1 c.loop-n.at (some c.before) ∙ c.loop-n.invariant.1,
+pub loop-preserved : goal.loop-preserved
+loop-preserved c = (
+  omega (arith, c.loop.invariant.0),
+  blanks c.args.source.now 1 c.loop.at (some c.before) ∙ c.loop.invariant.1,
 )
 
-pub returns-else-blank_at : goal.returns-else-blank_at
-returns-else-blank_at c = c.loop-n.invariant
+pub returns-then-not-blank_at : goal.returns-then-not-blank_at
+returns-then-not-blank_at c = c.loop.invariant
 
 pub returns : goal.returns
 returns c =
     let s = c.args.source.now in (
-      omega (arith, c.blank_end.ensures, c.loop-n.invariant.0),
-      ap (λ (i : ℕ). start_from i (chars (drop i s))) c.blank_end.ensures ∙ start_run s c.loop-n.at ∙ c.loop-n.invariant.1,
+      omega (arith, c.blank_end.ensures, c.loop.invariant.0),
+      ap (λ (i : ℕ). start_from i (chars (drop i s))) c.blank_end.ensures ∙ start_run s c.loop.at ∙ c.loop.invariant.1,
     )

@@ -1,16 +1,9 @@
--- Each text source is a case of the definition.
-use borrow.Author.Tests.{eq-eqb, ne_eqb}
-use Rattle.lexer.specs.Text.{text_in}
+-- The part that is lent is the text, or there is none.
+use mathlib.Core.Path.{sym}
 use Rattle.lexer.proofs.text.text_of.Goals as goal
 
-pub returns-then-origin-eq-IN_SOURCE : goal.returns-then-origin-eq-IN_SOURCE
-unfolding text_in
-returns-then-origin-eq-IN_SOURCE c = simp (eq-eqb _ _ c.if-origin-eq-IN_SOURCE.true) c.part.ensures
+pub returns-in-Some : goal.returns-in-Some
+returns-in-Some c = c.in-Some.ensures.0
 
-pub returns-then-origin-eq-IN_MEMORY : goal.returns-then-origin-eq-IN_MEMORY
-unfolding text_in
-returns-then-origin-eq-IN_MEMORY c = simp (ne_eqb _ _ c.if-origin-eq-IN_SOURCE.false, eq-eqb _ _ c.if-origin-eq-IN_MEMORY.true) c.part-then-origin-eq-IN_MEMORY.ensures
-
-pub returns : goal.returns
-unfolding text_in
-returns c = simp (ne_eqb _ _ c.if-origin-eq-IN_SOURCE.false, ne_eqb _ _ c.if-origin-eq-IN_MEMORY.false)
+pub returns-in-None : goal.returns-in-None
+returns-in-None c = sym c.in-None.ensures.0

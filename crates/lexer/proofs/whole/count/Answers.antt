@@ -5,9 +5,8 @@ use mathlib.Core.List.{[], ◌∷◌, ◌++◌}
 use Prim.Native.Nat.{ℕ}
 use native.Mathlib.Omega.{arith}
 use lib.ListN.{length-append}
-use Rattle.lexer.specs.Reading.{next_at, found_of, size_of}
+use Rattle.lexer.specs.Reading.{next_at, found_of, size_of, one_found}
 use Rattle.lexer.specs.declared.Spot.{Spot}
-use Rattle.lexer.specs.declared.Found.TheVariants.{One}
 use Rattle.lexer.specs.Writing.{Going, Counting, told_to}
 use Rattle.lexer.proofs.ReadingOn.{going, going_on, counted, it, it_moved, size_le}
 use Rattle.lexer.proofs.Writing.{past_end}
@@ -27,9 +26,9 @@ stood c =
     subst (λ (q : Spot). Counting c.args.source.now c.args.spot q c.loop-p.free c.count_told-told.result.items)
     (sym c.spot_past-p.ensures) (told c.before.before.before)
 
-one : (c : lts.Past-After-known_told tie.the-claims reads.Pre reads.Post goal.the-invariant-loop-p goal.the-decreases-loop-p) → One c.in-One.r c.in-One.q
+one : (c : lts.Past-After-known_told tie.the-claims reads.Pre reads.Post goal.the-invariant-loop-p goal.the-decreases-loop-p) → one_found c.in-Some.found.nine c.in-Some.found.after
     ≡ found_of c.loop-p.free (next_at c.args.source.now c.spot_past-p.result)
-one c = sym c.in-One.is ∙ c.next_item.ensures
+one c = sym c.in-Some.is ∙ c.next_item.ensures
 
 pub loop-p-init : goal.loop-p-init
 loop-p-init c = record { done = []; going = going c.args.source.now c.args.spot; count = refl }
@@ -57,12 +56,12 @@ overflow_add-n c =
 
 pub loop-p-smaller : goal.loop-p-smaller
 loop-p-smaller c =
-    let g = stood c.before.before.before.before in
+    let g = stood c.before.before.before.before.before.before in
     omega (
       arith,
       (it_moved c.args.source.now c.args.spot c.spot_past-p.result
           c.loop-p.free g.done g.going
-          c.in-One.r c.in-One.q (one c.before.before)).smaller,
+          c.in-Some.found.nine c.in-Some.found.after (one c.before.before.before.before)).smaller,
       c.count_told-told.ensures.ahead,
       ap (size_of c.args.source.now) c.spot_past-p.ensures,
     )
@@ -72,19 +71,19 @@ loop-p-preserved c =
     let s = c.args.source.now in
     let p = c.spot_past-p.result in
     let free = c.loop-p.free in
-    let r = c.in-One.r in
-    let q = c.in-One.q in
-    let g = stood c.before.before.before.before in
-    let done = g.done ++ (it s c.args.spot p free g.done g.going r q (one c.before.before) ∷ []) in
+    let r = c.in-Some.found.nine in
+    let q = c.in-Some.found.after in
+    let g = stood c.before.before.before.before.before.before in
+    let done = g.done ++ (it s c.args.spot p free g.done g.going r q (one c.before.before.before.before) ∷ []) in
     record {
       done = done;
       going = subst (λ (x : ℕ). Going s c.args.spot q x done) (sym c.free_after-free.ensures)
-          (going_on s c.args.spot p free g.done g.going r q (one c.before.before));
-      count = length-append g.done (it s c.args.spot p free g.done g.going r q (one c.before.before) ∷ []) ∙ omega (arith, g.count);
+          (going_on s c.args.spot p free g.done g.going r q (one c.before.before.before.before));
+      count = length-append g.done (it s c.args.spot p free g.done g.going r q (one c.before.before.before.before) ∷ []) ∙ omega (arith, g.count);
     }
 
-pub returns-in-End : goal.returns-in-End
-returns-in-End c =
+pub returns-in_default : goal.returns-in_default
+returns-in_default c =
     let g = stood c.before.before.before in
     counted c.args.source.now c.args.spot c.spot_past-p.result c.loop-p.free g.done g.going
-    c.count_told-told.result.items g.count (sym c.in-End.is ∙ c.next_item.ensures)
+    c.count_told-told.result.items g.count (sym c.in_default.is ∙ c.next_item.ensures)

@@ -20,19 +20,19 @@ overflow_add-n c =
 pub loop-at-smaller : goal.loop-at-smaller
 loop-at-smaller c =
     counted_smaller c.args.source.now c.args.p c.args.from c.requires.1 c.loop-at.at c.loop-at.invariant.1
-    c.skim_at.result c.in-At.end c.in-At.is c.skim_at.ensures
-    c.past_blanks-at-in-At.result c.past_blanks-at-in-At.ensures c.loop-at.invariant.0
+    c.skim_at.result c.in-Some.end c.in-Some.is c.skim_at.ensures
+    c.past_blanks-at-in-Some.result c.past_blanks-at-in-Some.ensures c.loop-at.invariant.0
 
 pub loop-at-preserved : goal.loop-at-preserved
 loop-at-preserved c = (
   omega (arith, c.loop-at.invariant.0),
   counted_on c.args.source.now c.args.p c.args.from c.requires.1 c.loop-at.at c.loop-at.invariant.1
-      c.skim_at.result c.in-At.end c.in-At.is c.skim_at.ensures
-      c.past_blanks-at-in-At.result c.past_blanks-at-in-At.ensures c.loop-at.invariant.0,
+      c.skim_at.result c.in-Some.end c.in-Some.is c.skim_at.ensures
+      c.past_blanks-at-in-Some.result c.past_blanks-at-in-Some.ensures c.loop-at.invariant.0,
 )
 
-pub returns-in-Unknown : goal.returns-in-Unknown
-returns-in-Unknown c = c.loop-at.invariant.1
+pub returns-in-None : goal.returns-in-None
+returns-in-None c = c.loop-at.invariant.1
 
 pub returns : goal.returns
 returns c = c.loop-at.invariant.1

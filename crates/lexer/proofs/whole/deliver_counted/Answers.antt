@@ -2,21 +2,22 @@
 use Rattle.lexer.specs.Reading.{all_items}
 use Rattle.lexer.proofs.Delivered.{few_records, little_text_holds, room, delivered}
 use Rattle.lexer.proofs.whole.deliver_counted.Goals as goal
+use Rattle.lexer.proofs.whole.deliver_counted.Goals.{then-recs-needed-via-then-recs-needed, then-recs-needed-via-else-recs-needed+then-text-needed}
 
-pub returns-then-recs-items : goal.returns-then-recs-items
-returns-then-recs-items c =
-    few_records (all_items c.args.source.now c.args.spot)
-    c.args.recs.now c.args.text.now c.count-needed.result c.count-needed.ensures c.if-recs-items.true
-
-pub returns-then-text-bytes : goal.returns-then-text-bytes
-returns-then-text-bytes c =
-    little_text_holds (all_items c.args.source.now c.args.spot) c.args.recs.now
-    c.args.text.now c.count-needed.result c.count-needed.ensures c.if-recs-items.false c.if-text-bytes.true
+pub returns-then-recs-needed : goal.returns-then-recs-needed
+returns-then-recs-needed c =
+    let is = all_items c.args.source.now c.args.spot in
+    elim c.then-recs-needed.branch [
+      | then-recs-needed-via-then-recs-needed w ↦
+          few_records is c.args.recs.now c.args.text.now c.count-needed.result c.count-needed.ensures w.if-recs-needed.true
+      | then-recs-needed-via-else-recs-needed+then-text-needed w ↦
+          little_text_holds is c.args.recs.now c.args.text.now c.count-needed.result c.count-needed.ensures w.if-recs-needed.false w.if-text-needed.true
+    ]
 
 pub write-requires : goal.write-requires
 write-requires c = let rest =
     room (all_items c.args.source.now c.args.spot) c.args.recs.now c.args.text.now
-    c.count-needed.result c.count-needed.ensures c.if-recs-items.false c.if-text-bytes.false in record {
+    c.count-needed.result c.count-needed.ensures c.if-recs-needed.false c.if-text-needed.false in record {
       source_len_bound = c.requires;
       spot_in_bounds = rest.0;
       spot_in_bounds_2 = rest.1;
@@ -25,5 +26,5 @@ write-requires c = let rest =
 pub returns : goal.returns
 returns c =
     delivered (all_items c.args.source.now c.args.spot) c.args.recs.now c.args.text.now
-    c.count-needed.result c.count-needed.ensures c.if-recs-items.false
-    c.if-text-bytes.false c.write.ensures.recs_after c.write.ensures.text_after
+    c.count-needed.result c.count-needed.ensures c.if-recs-needed.false
+    c.if-text-needed.false c.write.ensures.recs_after c.write.ensures.text_after

@@ -1,7 +1,6 @@
 -- What one look told is written, then what another told, and so on: any writing that stood at the spot goes on past all of it (ToldTurns). Each
 -- turn but the last writes a word at least, and the records have an end.
 use mathlib.Core.Path.{refl}
-use Prim.Native.Nat.{◌-◌}
 use native.Mathlib.Omega.{arith}
 use Rattle.lexer.specs.Writing.{ToldOn}
 use Rattle.lexer.proofs.ToldTurns.{none_told, told-length, words_on, told_amid, told_more}

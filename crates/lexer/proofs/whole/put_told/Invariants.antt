@@ -1,4 +1,3 @@
-use Prim.Native.Nat.{◌-◌}
 use Rattle.lexer.specs.Reading.{size_of}
 use Rattle.lexer.specs.Writing.{told_to, ToldOn}
 use Rattle.lexer.proofs.whole.put_told.Given as goal

@@ -1,4 +1,3 @@
-use Prim.Native.Nat.{◌-◌}
 use Rattle.lexer.specs.Reading.{size_of}
 use Rattle.lexer.specs.Writing.{Writing}
 use Rattle.lexer.proofs.whole.write.Given as goal

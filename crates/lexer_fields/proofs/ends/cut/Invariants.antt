@@ -1,4 +1,4 @@
-use Prim.Native.Nat.{◌-◌, ◌≤◌}
+use Prim.Native.Nat.{◌≤◌}
 use mathlib.Core.Path.{◌≡◌}
 use mathlib.Core.Bool.{false}
 use lib.ListN.{length, drop}
@@ -7,9 +7,6 @@ use Rattle.lexer_fields.specs.Fields.{is_in_order}
 use Rattle.lexer_fields.specs.Answers.{between}
 use Rattle.lexer_fields.proofs.ends.cut.Given as goal
 
-abbrev pub invariant-loop-i : goal.invariant-loop-i
-invariant-loop-i l =
-    (l.i ≤ length l.ends) × (is_in_order l.n l.from (drop l.i l.ends) ≡ is_in_order l.n 0 l.ends) × ((if l.inside then false else between l.source (drop l.i l.ends)) ≡ between l.source l.ends)
-
-abbrev pub decreases-loop-i : goal.decreases-loop-i
-decreases-loop-i l = length l.ends - l.i
+abbrev pub invariant-loop-place : goal.invariant-loop-place
+invariant-loop-place l =
+    (l.place-index ≤ length l.ends) × (is_in_order l.n l.from (drop l.place-index l.ends) ≡ is_in_order l.n 0 l.ends) × ((if l.inside then false else between l.source (drop l.place-index l.ends)) ≡ between l.source l.ends)

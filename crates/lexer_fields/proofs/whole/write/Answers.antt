@@ -1,5 +1,5 @@
 -- What the three memories hold is what is done, written; each turn adds one row, and one part's records and texts; at the end all is done.
-use Prim.Native.Nat.{◌-◌, ◌*◌}
+use Prim.Native.Nat.{◌*◌}
 use native.Mathlib.Omega.{arith}
 use Rattle.laws.proofs.Lent.{length_part}
 use Rattle.lexer_fields.specs.Fields.{row_words}
@@ -10,15 +10,6 @@ use Rattle.lexer_fields.proofs.whole.write.Goals as goal
 
 pub loop-i-init : goal.loop-i-init
 loop-i-init c = writing c.requires.fine c.requires.room
-
-pub offset_bounds-ends-i : goal.offset_bounds-ends-i
-offset_bounds-ends-i c = omega (arith, c.well_formed, c.loop-i-test.true)
-
-pub bounds-ends-i : goal.bounds-ends-i
-bounds-ends-i c = c.loop-i-test.true
-
-pub overflow_cast-end : goal.overflow_cast-end
-overflow_cast-end c = omega (arith, c.shared_slice_known-in-loop-i-1.given c.loop-i.i)
 
 pub slice_bounds-part-count : goal.slice_bounds-part-count
 slice_bounds-part-count c = omega (arith, bounds c.loop-i.invariant.at c.loop-i-test.true)
@@ -117,13 +108,6 @@ overflow_mul-w c =
 pub overflow_add-free : goal.overflow_add-free
 overflow_add-free c =
     omega (arith, sums c.loop-i.invariant.at c.loop-i-test.true c.requires.fine c.write_part-p.result c.write_part-p.ensures.value)
-
-pub overflow_add-i : goal.overflow_add-i
-overflow_add-i c =
-    omega (arith, c.loop-i-test.true)
-
-pub loop-i-smaller : goal.loop-i-smaller
-loop-i-smaller c = omega (arith, c.loop-i-test.true)
 
 pub loop-i-preserved : goal.loop-i-preserved
 loop-i-preserved c =

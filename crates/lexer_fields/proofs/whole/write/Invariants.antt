@@ -1,11 +1,6 @@
-use Prim.Native.Nat.{◌-◌}
-use lib.ListN.{length}
 use Rattle.lexer_fields.proofs.Writing.{Writing}
 use Rattle.lexer_fields.proofs.whole.write.Given as goal
 
 abbrev pub invariant-loop-i : goal.invariant-loop-i
 invariant-loop-i l =
     Writing l.source l.ends l.mode l.skip l.initial.rows l.initial.recs l.initial.text l.rows l.recs l.text l.i l.from l.n l.w l.free
-
-abbrev pub decreases-loop-i : goal.decreases-loop-i
-decreases-loop-i l = length l.ends - l.i

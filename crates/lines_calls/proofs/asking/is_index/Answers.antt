@@ -6,12 +6,12 @@ use Rattle.lines_calls.proofs.asking.is_index.Goals as goal
 pub returns-then-text-gt-LIMIT : goal.returns-then-text-gt-LIMIT
 returns-then-text-gt-LIMIT c = index_long c.args.text.now c.args.index.now c.if-text-gt-LIMIT.true
 
-pub returns-in-Bad : goal.returns-in-Bad
-returns-in-Bad c =
+pub returns-in-Some : goal.returns-in-Some
+returns-in-Some c =
     index_bad c.args.text.now
-    c.args.index.now c.if-text-gt-LIMIT.false (sym c.first_bad.ensures ∙ c.in-Bad.is)
+    c.args.index.now c.if-text-gt-LIMIT.false (sym c.first_bad.ensures ∙ c.in-Some.is)
 
-pub returns-in-Good : goal.returns-in-Good
-returns-in-Good c =
+pub returns-in-None : goal.returns-in-None
+returns-in-None c =
     index_good c.args.text.now c.args.index.now c.if-text-gt-LIMIT.false
-    (sym c.first_bad.ensures ∙ c.in-Good.is) c.same_starts.ensures
+    (sym c.first_bad.ensures ∙ c.in-None.is) c.same_starts.ensures

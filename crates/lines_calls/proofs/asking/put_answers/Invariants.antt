@@ -1,4 +1,4 @@
-use Prim.Native.Nat.{◌-◌, ◌*◌, ◌≤◌}
+use Prim.Native.Nat.{◌*◌}
 use mathlib.Core.Path.{◌≡◌}
 use lib.ListN.{length, drop}
 use Rattle.lines.specs.Many.{answers}
@@ -6,8 +6,4 @@ use Rattle.lines_calls.specs.Left.{stored}
 use Rattle.lines_calls.proofs.asking.put_answers.Given as goal
 
 abbrev pub invariant-loop-k : goal.invariant-loop-k
-invariant-loop-k l = (l.k ≤ length l.places) × (l.at ≡ 2 * l.k)
-    × (length l.found ≡ length l.initial.found) × (stored 0 (answers l.text l.index l.places) l.initial.found ≡ stored l.at (answers l.text l.index (drop l.k l.places)) l.found)
-
-abbrev pub decreases-loop-k : goal.decreases-loop-k
-decreases-loop-k l = length l.places - l.k
+invariant-loop-k l = (length l.found ≡ length l.initial.found) × (stored 0 (answers l.text l.index l.places) l.initial.found ≡ stored (2 * l.k) (answers l.text l.index (drop l.k l.places)) l.found)

@@ -19,24 +19,24 @@ returns-then-text-index c =
     let room = starts_most a.text.now c.if-text-index.true in
     let fits : c.put.result ≤ length a.index.now = omega (arith, room, c.put.ensures.0) in
     builds_all a.text.now a.index.now c.if-text-gt-LIMIT.false
-    (sym c.first_bad.ensures ∙ c.in-Good.is)
+    (sym c.first_bad.ensures ∙ c.in_default.is)
     c.put.ensures.0 fits c.put.ensures.1
 
 pub returns-then-index-n : goal.returns-then-index-n
 returns-then-index-n c =
     let a = c.args in
     builds_short a.text.now a.index.now c.if-text-gt-LIMIT.false
-    (sym c.first_bad.ensures ∙ c.in-Good.is)
+    (sym c.first_bad.ensures ∙ c.in_default.is)
     c.count-n.ensures c.if-index-n.true
 
-pub returns-in-Bad : goal.returns-in-Bad
-returns-in-Bad c =
+pub returns-in-Some : goal.returns-in-Some
+returns-in-Some c =
     builds_bad c.args.text.now c.args.index.now
-    c.if-text-gt-LIMIT.false (sym c.first_bad.ensures ∙ c.in-Bad.is)
+    c.if-text-gt-LIMIT.false (sym c.first_bad.ensures ∙ c.in-Some.is)
 
-pub returns-else-index-n : goal.returns-else-index-n
-returns-else-index-n c =
+pub returns : goal.returns
+returns c =
     let a = c.args in
     builds_all a.text.now a.index.now c.if-text-gt-LIMIT.false
-    (sym c.first_bad.ensures ∙ c.in-Good.is)
-    c.count-n.ensures c.if-index-n.false c.put-in-Good.ensures.1
+    (sym c.first_bad.ensures ∙ c.in_default.is)
+    c.count-n.ensures c.if-index-n.false c.put-2.ensures.1

@@ -2,25 +2,25 @@
 use Rattle.lines.proofs.Feeding.{feeding_start, feeding_next, feeding_end}
 use Rattle.lines_calls.proofs.pieces.feed.Goals as goal
 
-pub loop-i-init : goal.loop-i-init
-loop-i-init c = let a = c.args in feeding_start a.st a.bytes.now a.index.now c.requires
+pub loop-b-init : goal.loop-b-init
+loop-b-init c = let a = c.args in feeding_start a.st a.bytes.now a.index.now c.requires
 
 pub step-next-requires : goal.step-next-requires
-step-next-requires c = c.loop-i.invariant.low
+step-next-requires c = c.loop-b.invariant.low
 
-pub loop-i-preserved : goal.loop-i-preserved
-loop-i-preserved c =
+pub loop-b-preserved : goal.loop-b-preserved
+loop-b-preserved c =
     let a = c.args in
-    let l = c.loop-i in
+    let l = c.loop-b in
     feeding_next a.st
-    a.bytes.now a.index.now l.t l.index l.i l.invariant c.loop-i-test.true
+    a.bytes.now a.index.now l.t l.index l.b-index l.invariant c.loop-b-test.true
     c.step-next.ensures c.note.ensures
 
 pub shape_of-index : goal.shape_of-index
-shape_of-index c = c.loop-i.invariant.size
+shape_of-index c = c.loop-b.invariant.size
 
 pub returns : goal.returns
 returns c =
     let a = c.args in
-    let l = c.loop-i in
-    feeding_end a.st a.bytes.now a.index.now l.t l.index l.i l.invariant c.loop-i-test.false
+    let l = c.loop-b in
+    feeding_end a.st a.bytes.now a.index.now l.t l.index l.b-index l.invariant c.loop-b-test.false

@@ -2,9 +2,10 @@
 use borrow.Author.Tests.{eq-eqb, ne_eqb}
 use Rattle.lines.specs.Starts.{newline}
 use Rattle.lines_calls.proofs.pieces.moved.Goals as goal
-
-pub returns-then-b-eq10 : goal.returns-then-b-eq10
-returns-then-b-eq10 c = rw (eq-eqb c.args.b newline c.if-b-eq10.true)
+use Rattle.lines_calls.proofs.pieces.moved.Goals.{then-b-eq10, else-b-eq10}
 
 pub returns : goal.returns
-returns c = rw (ne_eqb c.args.b newline c.if-b-eq10.false)
+returns c = elim c.if-b-eq10.branch [
+  | then-b-eq10 w ↦ rw (w.lines-is, eq-eqb c.args.b newline w.if-b-eq10.true)
+  | else-b-eq10 w ↦ rw (w.lines-is, ne_eqb c.args.b newline w.if-b-eq10.false)
+]

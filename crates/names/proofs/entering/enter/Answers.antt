@@ -24,7 +24,7 @@ overflow_cast-result c =
     omega (
       arith,
       number_small _ _ _ (bounds _ _ (sym c.in_bounds.ensures ∙ c.if-not-in_bounds.false)).few
-          (find_in _ _ _ _ c.if-party-ge-PARTIES.false (sym c.find-found.ensures.0 ∙ c.in-At.is)),
+          (find_in _ _ _ _ c.if-party-ge-PARTIES.false (sym c.find-found.ensures.0 ∙ c.in-Some.is)),
     )
 
 pub add-requires : goal.add-requires
@@ -37,12 +37,12 @@ add-requires c =
       party_bound = B.short _ two;
     }
 
-pub returns-in-At : goal.returns-in-At
-returns-in-At c =
+pub returns-in-Some : goal.returns-in-Some
+returns-in-Some c =
     enter_there _ _ _ _ (sym c.in_bounds.ensures ∙ c.if-not-in_bounds.false)
-    c.if-party-ge-PARTIES.false (sym c.find-found.ensures.0 ∙ c.in-At.is)
+    c.if-party-ge-PARTIES.false (sym c.find-found.ensures.0 ∙ c.in-Some.is)
 
-pub returns-in-Nothing : goal.returns-in-Nothing
-returns-in-Nothing c =
+pub returns-in-None : goal.returns-in-None
+returns-in-None c =
     enter_new _ _ _ _ (sym c.in_bounds.ensures ∙ c.if-not-in_bounds.false)
-    c.if-party-ge-PARTIES.false (sym c.find-found.ensures.0 ∙ c.in-Nothing.is) c.add.ensures
+    c.if-party-ge-PARTIES.false (sym c.find-found.ensures.0 ∙ c.in-None.is) c.add.ensures

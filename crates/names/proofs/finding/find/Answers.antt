@@ -33,12 +33,12 @@ returns-then-half-party c =
     ))
     c.loop-half.invariant
 
-pub returns-in-At : goal.returns-in-At
-returns-in-At c =
+pub returns-in-Some : goal.returns-in-Some
+returns-in-Some c =
     let e = c.if-half-party.false in
     let said = c.lookup-said.ensures in (
       find_own c.args.words.now
-          c.args.bytes.now c.args.party c.args.name.now c.in-At.is (said.0 ∙ rw e),
+          c.args.bytes.now c.args.party c.args.name.now c.in-Some.is (said.0 ∙ rw e),
       said.1 ∙ rw e,
     )
 
@@ -50,4 +50,4 @@ pub loop-half-preserved : goal.loop-half-preserved
 loop-half-preserved c =
     let e = c.if-half-party.false in
     let said = c.lookup-said.ensures in
-    inr (refl, sym (said.0 ∙ rw e) ∙ c.in-Nothing.is, said.1 ∙ rw e)
+    inr (refl, sym (said.0 ∙ rw e) ∙ c.in-None.is, said.1 ∙ rw e)

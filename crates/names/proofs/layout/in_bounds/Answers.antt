@@ -22,4 +22,4 @@ returns-then-half_in_bounds c =
 pub returns-else-half_in_bounds : goal.returns-else-half_in_bounds
 unfolding is_in_bounds
 returns-else-half_in_bounds c = if_yes _ _ _ (le-leb _ _ c.if-words-lt-TABLE_WORDS.false)
-    (if_yes _ _ _ (le-leb _ _ c.if-bytes-lt-TABLE_BYTES.false) (if_no _ _ _ (sym c.half_in_bounds.ensures ∙ c.if-half_in_bounds.false) refl))
+    (if_yes _ _ _ (le-leb _ _ c.if-bytes-lt-TABLE_BYTES.false) (if_no _ _ _ (sym c.half_in_bounds.ensures ∙ c.if-half_in_bounds.false) c.if-half_in_bounds.false))

@@ -1,7 +1,8 @@
 -- The first real ends with the text, or the byte behind it says what may follow; each form is told by a function of its own.
-use Rattle.numbers.specs.declared.MaybeReal.TheVariants.{AReal}
+use Rattle.std.proofs.Common.{Some}
 use Rattle.numbers.specs.Brief.{Begins}
-use Rattle.numbers.proofs.Outlines.{outline_rest, is_told_lem, is_sign_told}
+use Rattle.numbers.proofs.Outlines.{outline_rest, is_told_lem}
+use Rattle.digits.proofs.Digits.{is_sign_told}
 use mathlib.Core.Path.{sym, ap, ◌∙◌}
 use mathlib.Core.Logic.{inl}
 use native.Mathlib.Omega.{arith}
@@ -19,7 +20,7 @@ begins c =
 pub returns-then-t-end : goal.returns-then-t-end
 returns-then-t-end c =
     let one = c.outline_at-one in
-    inl (ap AReal c.real_of.ensures
+    inl (ap Some c.real_of.ensures
     ∙ outline_rest c.args.t.now 0 one.result one.ensures.0 one.ensures.3 one.ensures.1 (omega arith) one.ensures.2
     (is_told_lem _ c.if-not-is_sound.false-raw ∙ c.is_sound.ensures) c.if-t-end.true)
 

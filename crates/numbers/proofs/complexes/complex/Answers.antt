@@ -1,12 +1,13 @@
--- Each arm is a clause of `complex_of`.
+-- Where both reals are there, where the second is not, and where the first is not.
 use Rattle.numbers.proofs.Cuts.{complex_is, complex_no, complex_not}
+use mathlib.Core.Path.{◌∙◌}
 use Rattle.numbers.proofs.complexes.complex.Goals as goal
 
-pub returns-in-AReal-b : goal.returns-in-AReal-b
-returns-in-AReal-b c = complex_is _ _ _ _ c.in-AReal.is c.in-AReal-b.is
+pub returns-in_err-a : goal.returns-in_err-a
+returns-in_err-a c = c.from_residual.ensures ∙ complex_not _ _ c.in_err-a.was
 
-pub returns-in-NoReal-b : goal.returns-in-NoReal-b
-returns-in-NoReal-b c = complex_no _ _ _ c.in-AReal.is c.in-NoReal-b.is
+pub returns-in_err-b : goal.returns-in_err-b
+returns-in_err-b c = c.from_residual-in_err-b.ensures ∙ complex_no _ _ _ c.in_ok-a.was c.in_err-b.was
 
-pub returns-in-NoReal : goal.returns-in-NoReal
-returns-in-NoReal c = complex_not _ _ c.in-NoReal.is
+pub returns : goal.returns
+returns c = complex_is _ _ _ _ c.in_ok-a.was c.in_ok-b.was

@@ -1,10 +1,9 @@
 -- An empty part ends with nothing; else the text's last byte is the part's.
-use Rattle.numbers.proofs.Grammars.{ends_past}
-use Rattle.numbers.proofs.Cuts.{bought, ends_here}
+use Rattle.numbers.proofs.Grammars.{ends_past, ends_told}
 use Rattle.numbers.proofs.complexes.ends_i.Goals as goal
 
 pub returns-then-t-from : goal.returns-then-t-from
-returns-then-t-from c = ends_past bought _ _ c.if-t-from.true
+returns-then-t-from g c = ends_past g.met.G.NumberGrammar.letters _ _ c.if-t-from.true
 
 pub returns : goal.returns
-returns c = ends_here _ _ c.if-t-from.false
+returns g c = ends_told g.met.G.NumberGrammar.letters _ _ c.if-t-from.false _ c.spells.ensures

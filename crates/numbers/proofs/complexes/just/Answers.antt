@@ -1,9 +1,10 @@
--- Each arm is a clause of `just_of`.
+-- Where the real is there, and where it is not.
 use Rattle.numbers.proofs.Cuts.{just_is, just_no}
+use mathlib.Core.Path.{◌∙◌}
 use Rattle.numbers.proofs.complexes.just.Goals as goal
 
-pub returns-in-AReal : goal.returns-in-AReal
-returns-in-AReal c = just_is _ _ c.in-AReal.is
+pub returns-in_err-a : goal.returns-in_err-a
+returns-in_err-a c = c.from_residual.ensures ∙ just_no _ c.in_err-a.was
 
-pub returns-in-NoReal : goal.returns-in-NoReal
-returns-in-NoReal c = just_no _ c.in-NoReal.is
+pub returns : goal.returns
+returns c = just_is _ _ c.in_ok-a.was

@@ -1,22 +1,19 @@
--- The first sign past the first byte cuts the part in two, unless another one follows.
-use Rattle.numbers.proofs.Cuts.{rectangular_past, rectangular_alone, rectangular_many, rectangular_pair}
+-- The part is cut where two parts join, unless it is cut again; else it stands alone.
+use Rattle.numbers.proofs.Grammars.{rectangular_past, rectangular_alone, rectangular_many, rectangular_pair}
+use mathlib.Core.Path.{sym, ◌∙◌}
 use Rattle.numbers.proofs.complexes.rectangular_at.Goals as goal
 
 pub returns-then-t-from : goal.returns-then-t-from
-returns-then-t-from c = rectangular_past _ _ _ _ c.if-t-from.true c.alone.ensures
+returns-then-t-from g c = rectangular_past g.met.G.NumberGrammar.cutting _ _ _ _ c.if-t-from.true c.alone.ensures
 
-pub returns-then-another-t : goal.returns-then-another-t
-returns-then-another-t c =
-    rectangular_many _ _ _ c.if-t-from.false _ c.is_marker-marker.ensures _
-    c.to_sign-k.ensures c.if-k-t.true _ c.to_sign-another.ensures c.if-another-t.true
+pub returns-then-t-k : goal.returns-then-t-k
+returns-then-t-k g c = rectangular_alone g.met.G.NumberGrammar.cutting _ _ _ _ c.joint_at-k.ensures _ c.if-t-k.true c.alone-then-t-k.ensures
 
-pub returns-else-another-t : goal.returns-else-another-t
-returns-else-another-t c =
-    rectangular_pair _ _ _ c.if-t-from.false _
-    c.is_marker-marker.ensures _ c.to_sign-k.ensures
-    c.if-k-t.true _ c.to_sign-another.ensures _ c.if-another-t.false c.pair.ensures
+pub returns-then-is_cut_again : goal.returns-then-is_cut_again
+returns-then-is_cut_again g c =
+    rectangular_many g.met.G.NumberGrammar.cutting _ _ _ _ c.joint_at-k.ensures c.if-t-k.false (sym c.if-is_cut_again.true ∙ c.is_cut_again.ensures)
 
-pub returns-else-k-t : goal.returns-else-k-t
-returns-else-k-t c =
-    rectangular_alone _ _ _ c.if-t-from.false _ c.is_marker-marker.ensures _
-    c.to_sign-k.ensures _ c.if-k-t.false c.alone-else-k-t.ensures
+pub returns-else-is_cut_again : goal.returns-else-is_cut_again
+returns-else-is_cut_again g c =
+    rectangular_pair g.met.G.NumberGrammar.cutting _ _ _ _ c.joint_at-k.ensures c.if-t-k.false _ (sym c.if-is_cut_again.false ∙ c.is_cut_again.ensures)
+    c.pair.ensures

@@ -3,12 +3,12 @@ use native.Mathlib.Omega.{arith}
 use lib.Seq.{length-take-le}
 use mathlib.Core.Path.{refl, sym, ◌∙◌}
 use Rattle.numbers.proofs.Grammars.{ends_in}
-use Rattle.numbers.proofs.Cuts.{bought}
+use Rattle.numbers.specs.Grammars.{bought_parts}
 use Rattle.numbers.proofs.AfterPlus.{alone_one, alone_more, alone_plain}
 use Rattle.numbers.proofs.plus.plus_alone.Goals as goal
 
 pub overflow_sub-last : goal.overflow_sub-last
-overflow_sub-last c = let h = ends_in bought c.args.t.now 0 (sym c.if-ends_i.true ∙ c.ends_i.ensures) in omega arith
+overflow_sub-last c = let h = ends_in bought_parts c.args.t.now 0 (sym c.if-ends_i.true ∙ c.ends_i.ensures) in omega arith
 
 pub returns-then-last-eq0 : goal.returns-then-last-eq0
 returns-then-last-eq0 c = alone_one _ (sym c.if-ends_i.true ∙ c.ends_i.ensures) c.if-last-eq0.true

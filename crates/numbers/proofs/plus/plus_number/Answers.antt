@@ -11,7 +11,7 @@ slice_bounds-plus_real-end c = sym (length-take-le _ _ (omega arith))
 pub returns-then-plus_real : goal.returns-then-plus_real
 returns-then-plus_real c =
     number_polar _ c.find-k.ensures c.if-k-t.true
-    c.plus_real.ensures c.if-plus_real.true c.real_at.ensures c.is_real.ensures
+    c.plus_real.ensures c.if-plus_real.true c.real_at.ensures c.is_some.ensures
 
 pub returns-then-k-t : goal.returns-then-k-t
 returns-then-k-t c =

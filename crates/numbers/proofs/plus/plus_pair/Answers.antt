@@ -16,7 +16,7 @@ returns-then-plus_real c =
     pair_second _ _ (sym c.if-ends_i.true ∙
     c.ends_i.ensures) c.plus_real.ensures
     c.if-plus_real.true c.requires c.imaginary_at.ensures
-    c.is_real.ensures
+    c.is_some.ensures
 
 pub returns-then-ends_i : goal.returns-then-ends_i
 returns-then-ends_i c =

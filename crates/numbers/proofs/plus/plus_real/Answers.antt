@@ -14,4 +14,4 @@ returns-then-equal_from-2 c =
 pub returns : goal.returns
 returns c =
     real_unsigned _ (sym c.if-equal_from.false ∙ c.equal_from.ensures)
-    (sym c.if-equal_from-2.false ∙ c.equal_from-2.ensures) c.ureal_at.ensures c.is_real.ensures
+    (sym c.if-equal_from-2.false ∙ c.equal_from-2.ensures) c.ureal_at.ensures c.is_some.ensures

@@ -1,9 +1,10 @@
--- Each arm is a clause of `integral_of`.
+-- Where the integer is there, and where it is not.
 use Rattle.numbers.proofs.RealParts.{integral_is, integral_no}
+use mathlib.Core.Path.{◌∙◌}
 use Rattle.numbers.proofs.reals.integral.Goals as goal
 
-pub returns-in-AnInt : goal.returns-in-AnInt
-returns-in-AnInt c = integral_is _ _ c.in-AnInt.is
+pub returns-in_err-n : goal.returns-in_err-n
+returns-in_err-n c = c.from_residual.ensures ∙ integral_no _ c.in_err-n.was
 
-pub returns-in-NoInt : goal.returns-in-NoInt
-returns-in-NoInt c = integral_no _ c.in-NoInt.is
+pub returns : goal.returns
+returns c = integral_is _ _ c.in_ok-n.was

@@ -1,9 +1,12 @@
--- `e`, and else whether it is `E`.
-use Rattle.numbers.proofs.Decimals.{marker_lower, marker_upper}
+-- `e` and `E`, and no other byte.
+use native.Mathlib.Omega.{arith}
+use Rattle.numbers.specs.Reals.{exponent_marker}
 use Rattle.numbers.proofs.reals.is_marker.Goals as goal
 
-pub returns-then-c-eq101 : goal.returns-then-c-eq101
-returns-then-c-eq101 c = marker_lower _ c.if-c-eq101.true
+pub returns-in-101 : goal.returns-in-101
+unfolding exponent_marker
+returns-in-101 c = grind arith
 
-pub returns : goal.returns
-returns c = marker_upper _ c.if-c-eq101.false
+pub returns-in_default : goal.returns-in_default
+unfolding exponent_marker
+returns-in_default c = grind arith

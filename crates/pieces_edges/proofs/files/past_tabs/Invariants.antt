@@ -1,9 +1,6 @@
-use Rattle.std.proofs.Common.{◌≡◌, ◌+◌, ◌-◌, ◌≤◌, length, drop}
+use Rattle.std.proofs.Common.{◌≡◌, ◌+◌, drop}
 use Rattle.pieces_edges.specs.Fields.{past_tabs}
 use Rattle.pieces_edges.proofs.files.past_tabs.Given as goal
 
 abbrev pub invariant-loop-i : goal.invariant-loop-i
-invariant-loop-i l = (l.i ≤ length l.line) × (l.i + past_tabs l.left (drop l.i l.line) ≡ past_tabs l.tabs l.line)
-
-abbrev pub decreases-loop-i : goal.decreases-loop-i
-decreases-loop-i l = length l.line - l.i
+invariant-loop-i l = l.i + past_tabs l.left (drop l.i l.line) ≡ past_tabs l.tabs l.line

@@ -1,5 +1,4 @@
--- The invariant: what was copied so far is the front of the bytes. The measure is what is left of them.
-use Prim.Native.Nat.{◌-◌}
+-- The invariant: what was copied so far is the front of the bytes.
 use mathlib.Core.Path.{refl}
 use lib.ListN.{length-set}
 use native.Mathlib.Omega.{arith}
@@ -7,15 +6,14 @@ use Rattle.escapes.proofs.Laying.{copied_next, copied_end}
 use Rattle.pieces_giving.proofs.give.copy_all.Goals as goal
 
 pub loop-i-init : goal.loop-i-init
-loop-i-init c = (omega arith, refl, refl)
+loop-i-init c = (refl, refl)
 
 pub loop-i-preserved : goal.loop-i-preserved
 loop-i-preserved c = (
-  omega arith,
   simp length-set (omega arith),
   copied_next c.args.raw.now
-      c.args.text.now c.loop-i.text c.loop-i.i (omega arith) (omega arith) c.loop-i.invariant.2,
+      c.args.text.now c.loop-i.text c.loop-i.i (omega arith) (omega arith) c.loop-i.invariant.1,
 )
 
 pub returns : goal.returns
-returns c = copied_end c.args.raw.now c.args.text.now _ _ c.loop-i-test.false c.loop-i.invariant.2
+returns c = copied_end c.args.raw.now c.args.text.now _ _ (omega arith) c.loop-i.invariant.1

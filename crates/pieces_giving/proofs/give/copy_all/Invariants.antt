@@ -1,12 +1,7 @@
-use Prim.Native.Nat.{◌-◌, ◌≤◌}
 use mathlib.Core.Path.{◌≡◌}
 use lib.ListN.{length, take}
 use Rattle.laws.specs.Lent.{written}
 use Rattle.pieces_giving.proofs.give.copy_all.Given as goal
 
 abbrev pub invariant-loop-i : goal.invariant-loop-i
-invariant-loop-i l =
-    (l.i ≤ length l.raw) × (length l.text ≡ length l.initial.text) × (l.text ≡ written (take l.i l.raw) l.initial.text)
-
-abbrev pub decreases-loop-i : goal.decreases-loop-i
-decreases-loop-i l = length l.raw - l.i
+invariant-loop-i l = (length l.text ≡ length l.initial.text) × (l.text ≡ written (take l.i l.raw) l.initial.text)

@@ -14,7 +14,7 @@ returns-in-Nowhere c = rw c.in-Nowhere.is c.copy_extent.ensures
 pub returns-in-Source : goal.returns-in-Source
 returns-in-Source c =
     rw c.in-Source.is
-    (rw (c.past.ensures, c.past-in-Source.ensures) at c.copy_part.ensures)
+    (rw (c.saturating_sub.ensures, c.saturating_sub-in-Source.ensures) at c.copy_part.ensures)
 
 pub returns-in-Decoded : goal.returns-in-Decoded
 returns-in-Decoded c = rw c.in-Decoded.is (rw c.quotes_of.ensures at c.decode.ensures)

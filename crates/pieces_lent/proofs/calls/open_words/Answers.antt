@@ -11,10 +11,10 @@ returns-then-buf-ne-LONGEST c =
 pub returns-then-mode-gt-REPORT : goal.returns-then-mode-gt-REPORT
 returns-then-mode-gt-REPORT c =
     opens_no_mode c.args.mode c.args.skip c.args.buf.now
-    c.if-buf-ne-LONGEST.false c.clear.ensures
+    c.if-buf-ne-LONGEST.false (c.fill.ensures.after (λ y h. h))
     c.if-mode-gt-REPORT.true c.fresh_words-then-mode-gt-REPORT.ensures c.refuse-then-mode-gt-REPORT.ensures
 
 pub returns : goal.returns
 returns c =
     opens c.args.mode c.args.skip c.args.buf.now c.if-buf-ne-LONGEST.false
-    c.clear.ensures (omega arith) c.fresh_words-2.ensures
+    (c.fill.ensures.after (λ y h. h)) (omega arith) c.fresh_words-2.ensures

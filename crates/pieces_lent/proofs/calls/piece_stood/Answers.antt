@@ -1,10 +1,10 @@
 -- The state that the words stand for reads on, so the call is the one on it (Stood).
+use Rattle.std.proofs.Common.{Some}
 use mathlib.Core.Path.{sym, ap, ◌∙◌, subst}
 use lib.ListN.{length}
 use Rattle.pieces.specs.declared.Marks.{Marks}
 use Rattle.pieces_calls.specs.Answers.{piece_in}
 use Rattle.pieces_turns.specs.Inner.{Sound}
-use Rattle.pieces_lent.specs.declared.MaybeMarks.TheVariants.{Standing}
 use Rattle.pieces_lent.specs.Calls.{lent, piece_for}
 use Rattle.pieces_lent.proofs.Served.{served}
 use Rattle.pieces_lent.proofs.Stood.{code_narrow, code_seen, called_on}
@@ -27,5 +27,5 @@ returns c =
     let called = c.piece_on in
     let sound = subst (λ (m : Marks). Sound m buf text) (sym stood.ensures) c.requires.sound in
     served (lent c.args.words buf) (λ m. piece_in m buf piece (length text)) text
-    (code_seen c.args.words c.requires.code ∙ ap Standing (sym stood.ensures))
+    (code_seen c.args.words c.requires.code ∙ ap Some (sym stood.ensures))
     c.worded.ensures (called_on stood.result buf text sound piece called.ensures)

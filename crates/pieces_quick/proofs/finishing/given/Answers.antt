@@ -1,11 +1,12 @@
 -- Record, text, spot and buffer are the definition's for an item that ends before the byte (Giving: gives-item).
+use Rattle.std.proofs.Common.{Option}
+use Rattle.items.specs.declared.Record.{Record}
 use native.Mathlib.Omega.{arith}
 use mathlib.Core.Path.{refl, sym, ◌∙◌, subst}
 use lib.ListN.{take}
 use lib.Seq.{length-take-le}
 use Rattle.items.specs.Whole.{in_report}
 use Rattle.items.specs.Items.{range}
-use Rattle.pieces_quick.specs.declared.Gift.{Gift}
 use Rattle.pieces_quick.specs.Gives.{Copied}
 use Rattle.pieces_quick.proofs.Giving.{gives_item}
 use Rattle.pieces_quick.proofs.finishing.given.Goals as goal
@@ -26,22 +27,22 @@ copied-requires c =
       fine = c.requires.1.ended.fine;
     }
 
-pub returns-in-Of : goal.returns-in-Of
-returns-in-Of c =
+pub returns-in-Some : goal.returns-in-Some
+returns-in-Some c =
     let next = c.after-next in
     let w = c.args.w in
     let s = c.args.s in
     let kept = sym c.skips.ensures ∙ c.if-skips.false in
-    let k = subst (λ (q : Gift). Copied s c.args.m w.depth (take s.len c.args.buf.now) c.args.text.now
-    c.copied.new.text q) c.in-Of.is c.copied.ensures (in_report w.mode) (range w.from w.to) in
+    let k = subst (λ (q : Option Record). Copied s c.args.m w.depth (take s.len c.args.buf.now) c.args.text.now
+    c.copied.new.text q) c.in-Some.is c.copied.ensures (in_report w.mode) (range w.from w.to) in
     gives_item w s c.args.buf.now c.args.text.now c.requires.0 c.args.b c.args.f c.args.m c.requires.1 kept
     (range w.from w.to) _ _ k.0 k.1 next.result _ _ next.ensures.0
     (next.ensures.1 w c.requires.0.left c.args.m.kind _ c.requires.0.ready (omega arith))
 
-pub returns-in-Not : goal.returns-in-Not
-returns-in-Not c =
+pub returns-in-None : goal.returns-in-None
+returns-in-None c =
     let s = c.args.s in (
       refl,
-      subst (λ (q : Gift). Copied s c.args.m c.args.w.depth (take s.len c.args.buf.now) c.args.text.now
-          c.copied.new.text q) c.in-Not.is c.copied.ensures,
+      subst (λ (q : Option Record). Copied s c.args.m c.args.w.depth (take s.len c.args.buf.now) c.args.text.now
+          c.copied.new.text q) c.in-None.is c.copied.ensures,
     )

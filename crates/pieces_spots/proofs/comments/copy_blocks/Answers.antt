@@ -1,6 +1,6 @@
 -- The loop keeps: the blocks so far are copied, and the run goes on past them (CopiedBlocks; CopiedLines: block-over).
 use native.Mathlib.Omega.{arith}
-use Prim.Native.Nat.{◌+◌, ◌-◌, ◌≤◌}
+use Prim.Native.Nat.{◌+◌, ◌≤◌}
 use borrow.Author.Tests.{leb-false}
 use mathlib.Core.Path.{refl, sym, ap, ◌∙◌}
 use lib.ListN.{length, take, length-take}

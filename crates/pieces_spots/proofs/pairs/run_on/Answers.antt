@@ -1,7 +1,6 @@
 -- The invariant: the spot feeds on as the first. A run and a pair keep it; the measure is what is left of the piece.
 use native.Mathlib.Omega.{arith}
 use borrow.Author.Tests.{not-false}
-use Prim.Native.Nat.{◌-◌}
 use mathlib.Core.Path.{sym, ◌∙◌}
 use Rattle.pieces_spots.proofs.Moves.{stay, along}
 use Rattle.pieces_spots.proofs.pairs.run_on.Goals as goal

@@ -1,4 +1,5 @@
 -- `hex_part` goes by the cases of `scalar_of`; a place where the digits fail is one of the bytes' places.
+use Rattle.std.proofs.Common.{Err}
 use mathlib.Core.Path.{sym, ap, ◌∙◌}
 use native.Mathlib.Omega.{arith}
 use Rattle.items.specs.Readers.{scalar_of}
@@ -12,14 +13,8 @@ overflow_add-result c =
       arith,
       part_place t c.args.from
           c.args.to _ _ _ c.requires.0 c.requires.1 (sym (ap scalar_of c.hex_value.ensures)
-          ∙ sym c.scalar_of.ensures ∙ c.in-WrongAt.is),
+          ∙ sym c.scalar_of.ensures ∙ c.in-Err-WrongAt.is ∙ ap Err c.in-Err-WrongAt.field-0-is),
     )
 
-pub returns-in-Scalar : goal.returns-in-Scalar
-returns-in-Scalar c = rw (sym (ap scalar_of c.hex_value.ensures) ∙ sym c.scalar_of.ensures ∙ c.in-Scalar.is)
-
-pub returns-in-Wrong : goal.returns-in-Wrong
-returns-in-Wrong c = rw (sym (ap scalar_of c.hex_value.ensures) ∙ sym c.scalar_of.ensures ∙ c.in-Wrong.is)
-
-pub returns-in-WrongAt : goal.returns-in-WrongAt
-returns-in-WrongAt c = rw (sym (ap scalar_of c.hex_value.ensures) ∙ sym c.scalar_of.ensures ∙ c.in-WrongAt.is)
+pub returns-in-Err-WrongAt : goal.returns-in-Err-WrongAt
+returns-in-Err-WrongAt c = rw (sym (ap scalar_of c.hex_value.ensures) ∙ sym c.scalar_of.ensures ∙ c.in-Err-WrongAt.is ∙ ap Err c.in-Err-WrongAt.field-0-is)

@@ -5,7 +5,11 @@ use Rattle.items.specs.Classes.{ends_run}
 use Rattle.items.specs.declared.Phase.TheVariants as ph
 use Rattle.steps.specs.Scan.{Passes}
 use Rattle.steps.proofs.Kept.{passes}
-use Rattle.steps.proofs.Ended.{run_out, run_before, space_ends, not_kept}
+use Rattle.std.proofs.Common.{Option}
+use Prim.Native.Nat.{ℕ}
+use Rattle.items.specs.declared.Outcome.TheVariants.{Run}
+use Rattle.steps.specs.Ended.{EndsAs}
+use Rattle.steps.proofs.Ended.{told, run_out, run_before, space_ends, not_kept}
 use Rattle.steps.proofs.endings.run_ending.Tie as tie
 use Rattle.steps.proofs.endings.run_ending.Lts as lts
 use Rattle.steps.proofs.endings.run_ending.Reads as reads
@@ -27,9 +31,10 @@ returns-then-b-eq32 c =
     run_before f.s.now f.from c.number_end-end.result (pass c.before.before.before.before) f.report h (omega (arith, c.if-b-eq32.true))
     (ap (ends_run f.report) c.if-b-eq32.true ∙ space_ends f.report) (not_kept f.s.now f.from ph.InRun c.number_end-end.result c.number_end-end.ensures h)
 
-pub returns-then-ends_run : goal.returns-then-ends_run
-returns-then-ends_run c =
+pub returns : goal.returns
+returns c =
     let f = c.args in
     let h = c.if-s-end.false in
-    run_before f.s.now f.from c.number_end-end.result (pass c.before.before.before.before.before.before.before) f.report h c.if-b-ge-ASCII_END.false
-    (sym c.ends_run.ensures ∙ c.if-ends_run.true) (not_kept f.s.now f.from ph.InRun c.number_end-end.result c.number_end-end.ensures h)
+    told (λ (r : Option ℕ). EndsAs f.s.now f.report ph.InRun Run f.from r) tt _ _ _ c.then_some.ensures
+    (λ t. run_before f.s.now f.from c.number_end-end.result (pass c.before.before.before.before.before.before.before.before) f.report h c.if-b-ge-ASCII_END.false
+    (sym (c.ends_run.ensures ∙ ap (ends_run f.report) c.from.ensures) ∙ t) (not_kept f.s.now f.from ph.InRun c.number_end-end.result c.number_end-end.ensures h))

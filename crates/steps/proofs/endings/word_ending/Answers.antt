@@ -4,7 +4,11 @@ use Rattle.items.specs.declared.Outcome.TheVariants.{Word}
 use Rattle.items.specs.declared.Phase.TheVariants as ph
 use Rattle.steps.specs.Scan.{Passes}
 use Rattle.steps.proofs.Kept.{passes}
-use Rattle.steps.proofs.Ended.{word_out, word_before, not_kept, ends_past}
+use Rattle.std.proofs.Common.{Option}
+use Prim.Native.Nat.{ℕ}
+use borrow.Author.Tests.{eqb-false, not-true}
+use Rattle.steps.specs.Ended.{EndsAs}
+use Rattle.steps.proofs.Ended.{told, word_out, word_before, not_kept, ends_past}
 use Rattle.steps.proofs.endings.word_ending.Tie as tie
 use Rattle.steps.proofs.endings.word_ending.Lts as lts
 use Rattle.steps.proofs.endings.word_ending.Reads as reads
@@ -31,5 +35,6 @@ pub returns : goal.returns
 returns c report =
     let f = c.args in
     let h = c.if-s-end.false in
-    word_before f.s.now f.from c.word_end-end.result (pass c.before.before.before.before.before) report h c.if-b-ge-ASCII_END.false c.if-b-eq92.false
-    (not_kept f.s.now f.from ph.InWord c.word_end-end.result c.word_end-end.ensures h)
+    told (λ (r : Option ℕ). EndsAs f.s.now report ph.InWord Word f.from r) tt _ _ _ c.then_some.ensures
+    (λ t. word_before f.s.now f.from c.word_end-end.result (pass c.before.before.before.before.before) report h c.if-b-ge-ASCII_END.false
+    (eqb-false _ _ (not-true _ t)) (not_kept f.s.now f.from ph.InWord c.word_end-end.result c.word_end-end.ensures h))

@@ -1,6 +1,6 @@
 -- What is left of the line is compared with what is left of the text.
-use Prim.Native.Nat.{ℕ, ◌-◌}
-use mathlib.Core.Path.{refl, sym, ap, ◌∙◌}
+use Prim.Native.Nat.{ℕ}
+use mathlib.Core.Path.{sym, ap, ◌∙◌}
 use mathlib.Core.List.{List}
 use lib.ListN.{drop}
 use native.Mathlib.Omega.{arith}
@@ -8,33 +8,28 @@ use Rattle.laws.specs.Texts.{begins}
 use Rattle.steps.proofs.Delimiter.{unreturned_skip, line_short, line_differ, line_more, line_all}
 use Rattle.steps.proofs.here.begins_with_line.Goals as goal
 
-pub loop-i-init : goal.loop-i-init
-loop-i-init c = (omega arith, refl, omega arith)
-
-pub loop-i-preserved-then-line-i-eq13 : goal.loop-i-preserved-then-line-i-eq13
-loop-i-preserved-then-line-i-eq13 c = (
-  omega arith,
-  c.loop-i.invariant.1
-      ∙ ap (λ (l : List ℕ). begins l (drop c.loop-i.j c.args.text.now))
-      (unreturned_skip _ _ c.loop-i-test.true c.if-line-i-eq13.true),
-  omega arith,
+pub loop-b-preserved-then-b-eq13 : goal.loop-b-preserved-then-b-eq13
+loop-b-preserved-then-b-eq13 c = (
+  c.loop-b.invariant.0
+      ∙ ap (λ (l : List ℕ). begins l (drop c.loop-b.j c.args.text.now))
+      (unreturned_skip _ _ c.loop-b-test.true c.if-b-eq13.true),
+  c.loop-b.invariant.1,
 )
 
 pub returns-then-text-j : goal.returns-then-text-j
-returns-then-text-j c = sym (c.loop-i.invariant.1 ∙ line_short _ _ _ _ c.loop-i-test.true c.if-line-i-eq13.false c.if-text-j.true)
+returns-then-text-j c = sym (c.loop-b.invariant.0 ∙ line_short _ _ _ _ c.loop-b-test.true c.if-b-eq13.false c.if-text-j.true)
 
-pub returns-then-line-i : goal.returns-then-line-i
-returns-then-line-i c =
-    sym (c.loop-i.invariant.1
-    ∙ line_differ _ _ _ _ c.loop-i-test.true c.if-line-i-eq13.false c.if-text-j.false c.if-line-i.true)
+pub returns-then-text-j-2 : goal.returns-then-text-j-2
+returns-then-text-j-2 c =
+    sym (c.loop-b.invariant.0
+    ∙ line_differ _ _ _ _ c.loop-b-test.true c.if-b-eq13.false c.if-text-j.false (λ e. c.if-text-j-2.true (sym e)))
 
-pub loop-i-preserved : goal.loop-i-preserved
-loop-i-preserved c = (
-  omega arith,
-  c.loop-i.invariant.1
-      ∙ line_more _ _ _ _ c.loop-i-test.true c.if-line-i-eq13.false c.if-text-j.false c.if-line-i.false,
+pub loop-b-preserved : goal.loop-b-preserved
+loop-b-preserved c = (
+  c.loop-b.invariant.0
+      ∙ line_more _ _ _ _ c.loop-b-test.true c.if-b-eq13.false c.if-text-j.false (sym c.if-text-j-2.false),
   omega arith,
 )
 
 pub returns : goal.returns
-returns c = sym (c.loop-i.invariant.1 ∙ line_all _ c.args.text.now _ c.loop-i.j c.loop-i-test.false)
+returns c = sym (c.loop-b.invariant.0 ∙ line_all _ c.args.text.now _ c.loop-b.j c.loop-b-test.false)

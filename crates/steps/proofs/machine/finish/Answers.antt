@@ -1,4 +1,5 @@
 -- An arm for each phase.
+use mathlib.Core.Logic.{⊎_elim}
 use Rattle.steps.proofs.machine.finish.Goals as goal
 
 pub returns-in-InLine : goal.returns-in-InLine
@@ -7,50 +8,11 @@ returns-in-InLine c = rw c.in-InLine.is
 pub returns-in-AfterComma : goal.returns-in-AfterComma
 returns-in-AfterComma c = rw c.in-AfterComma.is
 
-pub returns-in-AfterHash : goal.returns-in-AfterHash
-returns-in-AfterHash c = rw c.in-AfterHash.is (simp (c.hash_last.ensures, c.hash_kind.ensures))
-
-pub returns-in-AfterAngle : goal.returns-in-AfterAngle
-returns-in-AfterAngle c = rw c.in-AfterAngle.is
-
-pub returns-in-HereDelim : goal.returns-in-HereDelim
-returns-in-HereDelim c = rw c.in-HereDelim.is
-
-pub returns-in-HereStart : goal.returns-in-HereStart
-returns-in-HereStart c = rw c.in-HereStart.is
-
 pub returns-in-HereBody : goal.returns-in-HereBody
 returns-in-HereBody c = rw c.in-HereBody.is (simp c.here_last.ensures)
 
-pub returns-in-InWord : goal.returns-in-InWord
-returns-in-InWord c = rw c.in-InWord.is
-
-pub returns-in-WordEscape : goal.returns-in-WordEscape
-returns-in-WordEscape c = rw c.in-WordEscape.is
-
 pub returns-in-InRun : goal.returns-in-InRun
 returns-in-InRun c = rw c.in-InRun.is
-
-pub returns-in-InHash : goal.returns-in-InHash
-returns-in-InHash c = rw c.in-InHash.is (simp (c.hash_last-in-InHash.ensures, c.hash_kind-in-InHash.ensures))
-
-pub returns-in-HashEscape : goal.returns-in-HashEscape
-returns-in-HashEscape c = rw c.in-HashEscape.is (simp (c.hash_last-in-HashEscape.ensures, c.hash_kind-in-HashEscape.ensures))
-
-pub returns-in-HashTick : goal.returns-in-HashTick
-returns-in-HashTick c = rw c.in-HashTick.is (simp (c.hash_last-in-HashTick.ensures, c.hash_kind-in-HashTick.ensures))
-
-pub returns-in-HashComma : goal.returns-in-HashComma
-returns-in-HashComma c = rw c.in-HashComma.is (simp (c.hash_last-in-HashComma.ensures, c.hash_kind-in-HashComma.ensures))
-
-pub returns-in-Nest : goal.returns-in-Nest
-returns-in-Nest c = rw c.in-Nest.is
-
-pub returns-in-NestBar : goal.returns-in-NestBar
-returns-in-NestBar c = rw c.in-NestBar.is
-
-pub returns-in-NestSharp : goal.returns-in-NestSharp
-returns-in-NestSharp c = rw c.in-NestSharp.is
 
 pub returns-in-Quoted : goal.returns-in-Quoted
 returns-in-Quoted c = rw c.in-Quoted.is (simp c.unclosed.ensures)
@@ -58,20 +20,19 @@ returns-in-Quoted c = rw c.in-Quoted.is (simp c.unclosed.ensures)
 pub returns-in-Closed : goal.returns-in-Closed
 returns-in-Closed c = rw c.in-Closed.is (simp c.closed.ensures)
 
-pub returns-in-TrimBefore : goal.returns-in-TrimBefore
-returns-in-TrimBefore c = rw c.in-TrimBefore.is (simp c.cut.ensures)
-
-pub returns-in-TrimAfter : goal.returns-in-TrimAfter
-returns-in-TrimAfter c = rw c.in-TrimAfter.is (simp c.cut-in-TrimAfter.ensures)
-
-pub returns-in-Escape : goal.returns-in-Escape
-returns-in-Escape c = rw c.in-Escape.is (simp c.cut-in-Escape.ensures)
-
-pub returns-in-Brace : goal.returns-in-Brace
-returns-in-Brace c = rw c.in-Brace.is (simp c.cut-in-Brace.ensures)
-
-pub returns-in-Hex : goal.returns-in-Hex
-returns-in-Hex c = rw c.in-Hex.is (simp c.cut-in-Hex.ensures)
-
 pub returns-in-Done : goal.returns-in-Done
 returns-in-Done c = rw c.in-Done.is
+
+pub returns-in-HereDelim : goal.returns-in-HereDelim
+returns-in-HereDelim c = ⊎_elim (λ h. rw h) (λ h. rw h) c.in-HereDelim.is
+
+pub returns-in-AfterAngle : goal.returns-in-AfterAngle
+returns-in-AfterAngle c = ⊎_elim (λ h. rw h) (⊎_elim (λ h. rw h) (λ h. rw h)) c.in-AfterAngle.is
+
+pub returns-in-AfterHash : goal.returns-in-AfterHash
+returns-in-AfterHash c =
+    ⊎_elim (λ h. rw h (simp (c.hash_last.ensures, c.hash_kind.ensures)))
+    (⊎_elim (λ h. rw h (simp (c.hash_last.ensures, c.hash_kind.ensures)))
+    (⊎_elim (λ h. rw h (simp (c.hash_last.ensures, c.hash_kind.ensures)))
+    (⊎_elim (λ h. rw h (simp (c.hash_last.ensures, c.hash_kind.ensures))) (λ h. rw h (simp (c.hash_last.ensures, c.hash_kind.ensures))))))
+    c.in-AfterHash.is

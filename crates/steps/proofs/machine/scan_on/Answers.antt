@@ -1,10 +1,9 @@
 -- The invariant: from the phase and the place that the loop has come to, the machine answers what it answers from the first.
 -- A turn decodes one character and takes one step; the measure is what is left of the text.
-use Prim.Native.Nat.{◌-◌}
 use mathlib.Core.Path.{refl, sym, ◌∙◌}
+use mathlib.Core.Logic.{⊎_elim}
 use native.Mathlib.Omega.{arith}
 use borrow.Author.Rules.{rules}
-use Rattle.laws.specs.Quoted.{code}
 use Rattle.chars.proofs.Chars.{char_at}
 use Rattle.chars.proofs.Width.{wide}
 use Rattle.steps.proofs.Turn.{turn_eat, turn_stop, turn_deep, turn_last, turn_out, none_bad, none_cut, none_end, part_short}
@@ -78,32 +77,9 @@ returns-in-Bad c =
     let run = c.run_end-at in
     let s = c.args.s.now in
     let at = run.result in
-    let none = none_bad s at (sym c.in-Bad.is ∙ c.decode_at.ensures) in
+    let d = c.decode_at.ensures in
+    let none = ⊎_elim (λ h. none_bad s at (sym h ∙ d)) (⊎_elim (λ h. none_cut s at (sym h ∙ d)) (λ h. none_end s at (sym h ∙ d))) c.in-Bad.is in
     c.scan_end.ensures ∙ sym (c.loop-at.invariant.3 ∙ run.ensures.2 c.args.report
-    ∙ turn_last s c.args.report c.args.start c.loop-at.phase at none)
-
-pub scan_end-requires-in-Cut : goal.scan_end-requires-in-Cut
-scan_end-requires-in-Cut c = let run = c.run_end-at in (omega (arith, run.ensures.0, c.loop-at.invariant.1), run.ensures.1)
-
-pub returns-in-Cut : goal.returns-in-Cut
-returns-in-Cut c =
-    let run = c.run_end-at in
-    let s = c.args.s.now in
-    let at = run.result in
-    let none = none_cut s at (sym c.in-Cut.is ∙ c.decode_at.ensures) in
-    c.scan_end-in-Cut.ensures ∙ sym (c.loop-at.invariant.3 ∙ run.ensures.2 c.args.report
-    ∙ turn_last s c.args.report c.args.start c.loop-at.phase at none)
-
-pub scan_end-requires-in-End : goal.scan_end-requires-in-End
-scan_end-requires-in-End c = let run = c.run_end-at in (omega (arith, run.ensures.0, c.loop-at.invariant.1), run.ensures.1)
-
-pub returns-in-End : goal.returns-in-End
-returns-in-End c =
-    let run = c.run_end-at in
-    let s = c.args.s.now in
-    let at = run.result in
-    let none = none_end s at (sym c.in-End.is ∙ c.decode_at.ensures) in
-    c.scan_end-in-End.ensures ∙ sym (c.loop-at.invariant.3 ∙ run.ensures.2 c.args.report
     ∙ turn_last s c.args.report c.args.start c.loop-at.phase at none)
 
 pub returns : goal.returns

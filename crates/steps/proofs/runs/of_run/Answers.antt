@@ -1,7 +1,7 @@
 -- A digit belongs to a number run, what comes before the plus to none (Kept), a dot does; else the tests are those of the definition.
 use borrow.Author.Tests.{lt-ltb, le-ltb}
 use native.Mathlib.Omega.{arith}
-use mathlib.Core.Path.{sym, ◌∙◌}
+use mathlib.Core.Path.{sym, ap, ◌∙◌}
 use Rattle.items.specs.Classes.{stays_run}
 use Rattle.steps.proofs.Kept.{digit_runs, early_stops}
 use Rattle.steps.proofs.runs.of_run.Goals as goal
@@ -22,4 +22,4 @@ pub returns-then-c-ge-ASCII_END : goal.returns-then-c-ge-ASCII_END
 returns-then-c-ge-ASCII_END c = rw (le-ltb c.args.c 0x80 c.if-c-ge-ASCII_END.true)
 
 pub returns : goal.returns
-returns c = rw (lt-ltb c.args.c 0x80 c.if-c-ge-ASCII_END.false) c.stays_run.ensures
+returns c = rw (lt-ltb c.args.c 0x80 c.if-c-ge-ASCII_END.false) (c.stays_run.ensures ∙ ap stays_run c.from.ensures)

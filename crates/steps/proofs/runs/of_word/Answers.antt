@@ -1,6 +1,6 @@
 -- A small letter belongs to a word (Kept), a space or a bracket to none; else the tests are those of the definition, in its order.
 use borrow.Author.Tests.{lt-ltb, le-ltb}
-use mathlib.Core.Path.{sym, ◌∙◌}
+use mathlib.Core.Path.{sym, ap, ◌∙◌}
 use Rattle.chars.specs.Blank.{is_blank}
 use Rattle.items.specs.Classes.{breaks_word}
 use Rattle.steps.proofs.Kept.{letter_words}
@@ -22,8 +22,8 @@ returns-then-c-ge-ASCII_END c = rw (le-ltb c.args.c 0x80 c.if-c-ge-ASCII_END.tru
 
 pub returns-then-breaks_word : goal.returns-then-breaks_word
 returns-then-breaks_word c =
-    rw (lt-ltb c.args.c 0x80 c.if-c-ge-ASCII_END.false, sym c.breaks_word.ensures ∙ c.if-breaks_word.true)
+    rw (lt-ltb c.args.c 0x80 c.if-c-ge-ASCII_END.false, sym (c.breaks_word.ensures ∙ ap breaks_word c.from.ensures) ∙ c.if-breaks_word.true)
 
 pub returns : goal.returns
 returns c =
-    rw (lt-ltb c.args.c 0x80 c.if-c-ge-ASCII_END.false, sym c.breaks_word.ensures ∙ c.if-breaks_word.false)
+    rw (lt-ltb c.args.c 0x80 c.if-c-ge-ASCII_END.false, sym (c.breaks_word.ensures ∙ ap breaks_word c.from.ensures) ∙ c.if-breaks_word.false)

@@ -1,6 +1,6 @@
 -- The loop keeps: up to the place i a phase that holds all but two characters is passed (Letters).
 use native.Mathlib.Omega.{arith}
-use Prim.Native.Nat.{◌-◌, ◌≤◌}
+use Prim.Native.Nat.{◌≤◌}
 use lib.ListN.{length, drop, length-drop}
 use Rattle.laws.proofs.Runs.{span_le}
 use Rattle.byte_runs.specs.Runs.{plain}

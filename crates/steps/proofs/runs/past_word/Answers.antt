@@ -1,6 +1,6 @@
 -- The loop keeps: up to the place i a word is passed. It ends where neither look passes a character.
 use native.Mathlib.Omega.{arith}
-use Prim.Native.Nat.{◌-◌, ◌≤◌}
+use Prim.Native.Nat.{◌≤◌}
 use lib.ListN.{length, drop, length-drop}
 use Rattle.laws.proofs.Runs.{span_le}
 use Rattle.items.specs.declared.Phase.TheVariants as ph

@@ -1,6 +1,6 @@
 -- The loop keeps: up to the place i a word is passed (Letters).
 use native.Mathlib.Omega.{arith}
-use Prim.Native.Nat.{◌+◌, ◌-◌, ◌≤◌}
+use Prim.Native.Nat.{◌+◌, ◌≤◌}
 use lib.ListN.{length, drop, length-drop}
 use Rattle.chars.specs.Wide.{PastAscii}
 use Rattle.chars.proofs.Wide.{is_past, past_fits}

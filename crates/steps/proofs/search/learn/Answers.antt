@@ -1,6 +1,5 @@
 -- The loop keeps: the delimiter's first j bytes stand at the place, and the line has them before its place i (Sought).
 use native.Mathlib.Omega.{arith}
-use Prim.Native.Nat.{◌-◌}
 use mathlib.Core.Path.{sym, ◌∙◌}
 use Rattle.items.specs.Readers.{unreturned}
 use Rattle.steps.specs.Sought.{Waits}

@@ -1,9 +1,8 @@
 -- The loop keeps: up to the place the delimiter stands nowhere, some of its bytes stand at the place, and their greatest suffix is known (Linear).
 use native.Mathlib.Omega.{arith}
-use Prim.Native.Nat.{◌+◌, ◌-◌, ◌≤◌, ◌<◌}
+use Prim.Native.Nat.{◌+◌, ◌≤◌, ◌<◌}
 use mathlib.Core.Path.{◌≡◌, sym, ◌∙◌}
 use lib.ListN.{length}
-use Rattle.byte_periods.specs.Periods.{byte}
 use Rattle.items.specs.Readers.{unreturned}
 use Rattle.steps.proofs.Linear.{size, stays_here, stays_there, as_near, as_few, clear_on, stood}
 use Rattle.steps.proofs.search.linear_end.Tie as tie

@@ -1,9 +1,0 @@
--- A byte below a is not within; from a on, b decides.
-use Rattle.laws.proofs.Choice.{within_below, within_from}
-use Rattle.digits.proofs.within.Goals as goal
-
-pub returns-then-c-a : goal.returns-then-c-a
-returns-then-c-a c = within_below _ _ _ c.if-c-a.true
-
-pub returns : goal.returns
-returns c = within_from _ _ _ c.if-c-a.false

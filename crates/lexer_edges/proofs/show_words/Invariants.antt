@@ -1,9 +1,0 @@
--- Every place that is read lies in the slice.
-use Rattle.std.proofs.Common.{◌-◌, ◌≤◌, length}
-use Rattle.lexer_edges.proofs.show_words.Given as goal
-
-abbrev pub invariant-loop-i : goal.invariant-loop-i
-invariant-loop-i g l = l.i ≤ length l.words
-
-abbrev pub decreases-loop-i : goal.decreases-loop-i
-decreases-loop-i g l = length l.words - l.i

@@ -1,8 +1,0 @@
--- The lines are counted down.
-use Rattle.pieces_edges.proofs.cases.each.Given as goal
-
-abbrev pub invariant-loop-left : goal.invariant-loop-left
-invariant-loop-left g l = Unit {0}
-
-abbrev pub decreases-loop-left : goal.decreases-loop-left
-decreases-loop-left g l = l.left

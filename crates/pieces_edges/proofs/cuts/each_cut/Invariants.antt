@@ -1,9 +1,0 @@
--- Every place that is read lies in the slice.
-use Rattle.std.proofs.Common.{◌-◌, ◌≤◌, length}
-use Rattle.pieces_edges.proofs.cuts.each_cut.Given as goal
-
-abbrev pub invariant-loop-at : goal.invariant-loop-at
-invariant-loop-at g l = l.at ≤ length l.text
-
-abbrev pub decreases-loop-at : goal.decreases-loop-at
-decreases-loop-at g l = length l.text - l.at
