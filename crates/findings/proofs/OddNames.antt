@@ -13,7 +13,7 @@ use lib.Seq.{drop-drop}
 use borrow.Author.Tests.{ne_eqb}
 use Rattle.std.specs.Prelude.{if◌then◌else◌, None, Option, Some}
 use Rattle.laws.specs.Quoted.{within}
-use Rattle.laws.proofs.Choice.{within_is}
+use Rattle.laws.proofs.Choice.{by_bool, impossible, within_is}
 use Rattle.laws.proofs.Places.{past, here}
 use Rattle.chars.specs.Utf8.{Front, char, bad, cut, none, front, placed, sequences}
 use Rattle.chars.specs.declared.Decoded.{Decoded}
@@ -22,7 +22,7 @@ use Rattle.chars.proofs.Table.{within_below, within_above}
 use Rattle.chars.proofs.Sequences.{sequences-char, sequences-bad, sequences-cut, sequences-none}
 use Rattle.chars.proofs.Round.{one_read}
 use Rattle.findings.specs.Finding.{warning, single}
-use Rattle.findings.specs.Slips.{is_quote, is_dash, is_invisible, odd_code, first_odd}
+use Rattle.findings.specs.Slips.{is_quote, is_dash, is_invisible, odd_code, some_code, first_odd}
 
 -- a printable character of ASCII is not odd
 pub plain_even : (c : ℕ) → within 0x20 0x7E c ≡ true → odd_code c ≡ 0
@@ -47,6 +47,18 @@ plain_even c w =
       below 0x2060 0x206F (omega arith),
       no 0xFEFF (omega arith),
     )
+
+-- a code that is one, and one that is none
+module _ (n : ℕ) where
+  pub code_some : {m : ℕ} → Some m ≡ some_code n → (eqb n 0 ≡ false) × (m ≡ n)
+  unfolding some_code
+  code_some {m} e = by_bool (eqb n 0)
+      (λ t. let z : Some m ≡ None = e ∙ rw t in impossible cc)
+      (λ f. let z : Some m ≡ Some n = e ∙ rw f in (f, cc))
+
+  pub code_none : {o : Option ℕ} → o ≡ some_code n → ((m : ℕ) → o ≡ Some m → ⊥) → eqb n 0 ≡ true
+  unfolding some_code
+  code_none {o} e never = by_bool (eqb n 0) (λ t. t) (λ f. absurd (never n (e ∙ rw f)))
 
 -- what the characters of s from place i on tell, where the text of s starts at a
 abbrev pub odd_from : List ℕ → ℕ → ℕ → Option Finding

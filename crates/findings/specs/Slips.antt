@@ -43,6 +43,10 @@ odd_code c =
     else if is_invisible c then invisible
     else 0
 
+-- a code, where it is one
+unfoldable pub some_code : ℕ → Option ℕ
+some_code n = if eqb n 0 then None else Some n
+
 -- the first odd character of some characters
 unfoldable pub first_odd : List Sequence → Option Finding
 first_odd [] = None

@@ -16,17 +16,11 @@ pub fn line_from(source: &[u8], from: usize, line: usize, to: usize) -> usize
     requires { line ≡ line_start source.now from }
     ensures { result ≡ line_start source.now to }
 {
-    let mut i = from;
-    let mut start = line;
-    if to < from {
-        i = 0;
-        start = 0;
-    }
-    while i < to {
+    let (first, mut start) = if to < from { (0, 0) } else { (from, line) };
+    for i in first..to {
         if rows::byte_at(source, i) == b'\n' {
             start = i + 1;
         }
-        i += 1;
     }
     start
 }

@@ -1,5 +1,5 @@
 // The finding about lists, by the refusal of the nested lists.
-ghost use Rattle.std.specs.Prelude.{◌≡◌, ◌<◌};
+ghost use Rattle.std.specs.Prelude.{◌≡◌, ◌<◌, ℕ, Bool, List};
 ghost use Rattle.laws.specs.Quoted.{within};
 ghost use Rattle.items.specs.Kinds as kind;
 ghost use Rattle.nested.specs.Errors.{error_number};
@@ -7,6 +7,7 @@ ghost use Rattle.findings.specs.Rows.{last_before};
 ghost use Rattle.findings.specs.Lists.{at_row, at_rows, is_kind, opener, is_mark, waits, wrong_close, misplaced_dot, mark_waits, innermost, around, bracket_open, refused_list, list_of};
 
 use crate::codes::{AT_DOT, BEHIND_DOT, CLOSES_ANOTHER, ERROR, NO_FINDING_DETAIL, NOWHERE, STRAY};
+use crate::slips::is_within;
 use crate::{Finding, ListTold, misfits, rows};
 use items::{RECORD_WORDS, kinds};
 use nested::{NestError, NestErrorKind};
@@ -51,20 +52,55 @@ fn at_rows(rows: &[u32], code: u32, detail: u32, i: usize, j: usize) -> Option<L
     })
 }
 
-// Whether row i has a kind, where so many brackets are open.
-fn is_kind(rows: &[u32], kind: u32, depth: u32, i: usize) -> bool
-    ensures { result ≡ is_kind rows.now kind depth i }
-{
-    let row = rows::row_at(rows, i);
-    row.kind == kind && row.depth == depth
+// A test of the rows before one.
+trait RowTest: Copy {
+    ghost passes: { Self → List ℕ → ℕ → ℕ → Bool };
+
+    // Whether row i passes, before row p.
+    fn holds(self, rows: &[u32], p: usize, i: usize) -> bool
+        requires { i < p }
+        ensures { result ≡ passes self rows.now p i };
 }
 
-// The last such row before row p.
-fn last_of(rows: &[u32], kind: u32, depth: u32, p: usize) -> usize
-    ensures { result ≡ last_before (λ i. is_kind rows.now kind depth i) p }
+// A row of a kind, where so many brackets are open.
+#[derive(Clone, Copy)]
+struct OfKind {
+    kind: u32,
+    depth: u32,
+}
+
+impl RowTest for OfKind {
+    ghost passes = { λ s rows p i. is_kind rows s.kind s.depth i };
+
+    fn holds(self, rows: &[u32], p: usize, i: usize) -> bool {
+        let row = rows::row_at(rows, i);
+        row.kind == self.kind && row.depth == self.depth
+    }
+}
+
+// A mark that waits at row p, where so many brackets are open.
+#[derive(Clone, Copy)]
+struct Waiting {
+    depth: u32,
+}
+
+impl RowTest for Waiting {
+    ghost passes = { λ s rows p i. waits rows s.depth p i };
+
+    fn holds(self, rows: &[u32], p: usize, i: usize) -> bool {
+        let row = rows::row_at(rows, i);
+        is_mark(row.kind)
+            && row.depth == self.depth
+            && (i + 1 == p || rows::row_at(rows, i + 1).kind == kinds::DATUM_COMMENT)
+    }
+}
+
+// The last row before row p that passes.
+fn last_passing<T: RowTest>(rows: &[u32], p: usize, test: T) -> usize
+    ensures { result ≡ last_before (T.passes test rows.now p) p }
 {
     for i in (0..p).rev() {
-        if is_kind(rows, kind, depth, i) {
+        if test.holds(rows, p, i) {
             return i;
         }
     }
@@ -75,7 +111,11 @@ fn last_of(rows: &[u32], kind: u32, depth: u32, p: usize) -> usize
 fn opener_of(rows: &[u32], depth: u32, p: usize) -> usize
     ensures { result ≡ opener rows.now depth p }
 {
-    last_of(rows, kinds::OPEN_PAREN, depth.saturating_sub(1), p)
+    let opens = OfKind {
+        kind: kinds::OPEN_PAREN,
+        depth: depth.saturating_sub(1),
+    };
+    last_passing(rows, p, opens)
 }
 
 // E41.
@@ -103,8 +143,11 @@ fn misplaced_dot(rows: &[u32], p: usize) -> Option<ListTold>
     if row.kind == kinds::DOT {
         return at_row(rows, MISPLACED_DOT, AT_DOT, p);
     }
-    let depth = rows::depth_at(rows, p);
-    let dot = last_of(rows, kinds::DOT, depth, p);
+    let dots = OfKind {
+        kind: kinds::DOT,
+        depth: rows::depth_at(rows, p),
+    };
+    let dot = last_passing(rows, p, dots);
     at_row(rows, MISPLACED_DOT, BEHIND_DOT, dot)
 }
 
@@ -112,56 +155,21 @@ fn misplaced_dot(rows: &[u32], p: usize) -> Option<ListTold>
 fn is_mark(kind: u32) -> bool
     ensures { result ≡ is_mark kind }
 {
-    if kind == kinds::DATUM_COMMENT {
-        return true;
-    }
-    if kind < kinds::QUOTE_TICK {
-        return false;
-    }
-    kind <= kinds::UNQUOTE_SPLICE_SYNTAX
-}
-
-// Whether the mark of row i waits at row p.
-fn is_waiting(rows: &[u32], depth: u32, p: usize, i: usize) -> bool
-    requires { i < p }
-    ensures { result ≡ waits rows.now depth p i }
-{
-    let row = rows::row_at(rows, i);
-    if !is_mark(row.kind) {
-        return false;
-    }
-    if row.depth != depth {
-        return false;
-    }
-    if i + 1 == p {
-        return true;
-    }
-    let next = rows::row_at(rows, i + 1);
-    next.kind == kinds::DATUM_COMMENT
-}
-
-// The last mark before row p that waits there.
-fn last_waiting(rows: &[u32], depth: u32, p: usize) -> usize
-    ensures { result ≡ last_before (waits rows.now depth p) p }
-{
-    for i in (0..p).rev() {
-        if is_waiting(rows, depth, p, i) {
-            return i;
-        }
-    }
-    0
+    kind == kinds::DATUM_COMMENT || is_within(kinds::QUOTE_TICK, kinds::UNQUOTE_SPLICE_SYNTAX, kind)
 }
 
 // E43.
 fn mark_waits(rows: &[u32], p: usize) -> Option<ListTold>
     ensures { result ≡ mark_waits rows.now p }
 {
-    let depth = rows::depth_at(rows, p);
+    let marks = Waiting {
+        depth: rows::depth_at(rows, p),
+    };
     at_row(
         rows,
         MARK_WAITS,
         NO_FINDING_DETAIL,
-        last_waiting(rows, depth, p),
+        last_passing(rows, p, marks),
     )
 }
 
@@ -188,10 +196,7 @@ fn around_misfit(rows: &[u32], k: usize) -> Option<ListTold>
 fn is_unclosed(error: u32) -> bool
     ensures { result ≡ within kind.IncompleteString kind.IncompleteComment error }
 {
-    if error < kinds::INCOMPLETE_STRING {
-        return false;
-    }
-    error <= kinds::INCOMPLETE_COMMENT
+    is_within(kinds::INCOMPLETE_STRING, kinds::INCOMPLETE_COMMENT, error)
 }
 
 // E40.

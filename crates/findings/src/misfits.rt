@@ -6,6 +6,7 @@ ghost use Rattle.findings.specs.Rows.{first_row};
 ghost use Rattle.findings.specs.Lists.{is_misfit};
 ghost use Rattle.findings.specs.Misfits.{noted, misfit_by};
 
+use crate::slips::is_within;
 use crate::{Row, lines, rows};
 use items::{RECORD_WORDS, kinds};
 
@@ -40,12 +41,7 @@ fn stands_out(source: &[u8], a: usize, line: usize, outer: usize, offset: usize)
     requires { line ≤ a }
     ensures { result ≡ (ltb outer line && leb (a - line) offset && first_on_line source.now a) }
 {
-    if outer < line {
-        if a - line <= offset {
-            return lines::first_on_line(source, a);
-        }
-    }
-    false
+    outer < line && a - line <= offset && lines::first_on_line(source, a)
 }
 
 // Whether a row is a misfit, by what is kept.
@@ -53,13 +49,7 @@ fn is_misfit(source: &[u8], row: Row, line: usize, starts: &[usize], offsets: &[
     requires { line ≤ row.start }
     ensures { result ≡ misfit_by source.now row line starts.now offsets.now }
 {
-    if row.kind != kinds::OPEN_PAREN {
-        return false;
-    }
-    if row.depth == 0 {
-        return false;
-    }
-    if DEEPEST_KEPT < row.depth {
+    if row.kind != kinds::OPEN_PAREN || !is_within(1, DEEPEST_KEPT, row.depth) {
         return false;
     }
     let outer = kept_at(starts, row.depth - 1);

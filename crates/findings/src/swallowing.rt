@@ -44,13 +44,9 @@ fn is_swallower(source: &[u8], rows: &[u32], p: usize) -> bool
     ensures { result ≡ is_swallower source.now rows.now p }
 {
     let row = rows::row_at(rows, p);
-    if row.kind != kinds::STRING_LITERAL {
-        return false;
-    }
-    if rows::byte_at(source, row.start as usize) != b'"' {
-        return false;
-    }
-    has_swallowed(rows::part(source, row.start as usize, row.end as usize))
+    row.kind == kinds::STRING_LITERAL
+        && rows::byte_at(source, row.start as usize) == b'"'
+        && has_swallowed(rows::part(source, row.start as usize, row.end as usize))
 }
 
 // The first of them, or the number of rows.

@@ -6,7 +6,7 @@ ghost use Rattle.findings_render.specs.Json.{name_one, name_string, spot_fields,
 
 use crate::lines::{put_severity_word, put_told};
 use findings_render_messages::{HELP, MESSAGE, NOTE, ToldFinding, code_of, is_told};
-use findings_render_parts::characters::{part, seen_at};
+use findings_render_parts::characters::{Walker, part, put_walked};
 use findings_render_parts::laying::put;
 use findings_render_parts::numbers::{put_digits, put_number};
 use findings_render_parts::places::{column_number, line_number};
@@ -14,31 +14,31 @@ use findings_render_parts::{Seen, Showing};
 
 const CONTROL_END: u32 = 0x20;
 
-// One character of a file's name, or a byte of none.
-fn put_name_one(out: &mut [u8], at: usize, u: Seen, t: &[u8]) -> usize
-    ensures { Laid false (name_one u t.now) at out.old result out.new }
-{
-    match u.kind {
-        Showing::AsByte => put(out, at, false, b"\\ufffd"),
-        _ if u.code < CONTROL_END => {
-            let begun = put(out, at, false, b"\\u00");
-            put_digits(out, begun, false, true, 2, u.code as usize)
+// Each character of a file's name, or byte of none.
+#[derive(Clone, Copy)]
+struct Name;
+
+impl Walker for Name {
+    ghost quoted = { λ s. false };
+
+    ghost made = { λ s u t. name_one u t };
+
+    fn put_one(self, out: &mut [u8], at: usize, u: Seen, t: &[u8]) -> usize {
+        match u.kind {
+            Showing::AsByte => put(out, at, false, b"\\ufffd"),
+            _ if u.code < CONTROL_END => {
+                let begun = put(out, at, false, b"\\u00");
+                put_digits(out, begun, false, true, 2, u.code as usize)
+            }
+            _ => put(out, at, true, part(t, 0, u.size)),
         }
-        _ => put(out, at, true, part(t, 0, u.size)),
     }
 }
 
 fn put_name(out: &mut [u8], at: usize, t: &[u8]) -> usize
     ensures { Laid false (name_string t.now) at out.old result out.new }
 {
-    let mut next = at;
-    let mut i = 0;
-    while i < t.len() {
-        let u = seen_at(t, i);
-        next = put_name_one(out, next, u, &t[i..]);
-        i += u.size;
-    }
-    next
+    put_walked(out, at, t, Name)
 }
 
 fn put_spot_fields(

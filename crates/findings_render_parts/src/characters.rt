@@ -1,9 +1,10 @@
 // A text as a terminal shows it, character by character.
-ghost use Rattle.std.specs.Prelude.{◌≡◌, false, true, [], ◌∷◌, ◌+◌, ◌<◌, ◌≤◌, ◌-◌, length, get_or, take, drop};
+ghost use Rattle.std.specs.Prelude.{ℕ, Bool, List, ◌≡◌, false, true, [], ◌∷◌, ◌+◌, ◌<◌, ◌≤◌, ◌-◌, length, get_or, take, drop};
 ghost use Rattle.laws.specs.Quoted.{code, within};
 ghost use Rattle.findings_render_parts.specs.Laid.{Laid};
+ghost use Rattle.findings_render_parts.specs.declared.Seen.{Seen};
 ghost use Rattle.findings_render_parts.specs.declared.Showing.TheVariants.{AsByte};
-ghost use Rattle.findings_render_parts.specs.Shown.{kind_of, seen_in, by_its_number, as_its_byte, shown_one, shown, columns, is_copied, under_one, under, is_nil, carets};
+ghost use Rattle.findings_render_parts.specs.Shown.{kind_of, seen_in, by_its_number, as_its_byte, walked, shown_one, shown, columns, is_copied, under_one, under, is_nil, carets};
 
 use crate::laying::{put, put_byte, put_run};
 use crate::numbers::{hex_count, put_digits};
@@ -125,14 +126,49 @@ fn put_as_byte(out: &mut [u8], at: usize, quoted: bool, b: u32) -> usize
     put(out, told, quoted, b">")
 }
 
-// One character, or a byte of none, at the front of a text.
-fn put_one(out: &mut [u8], at: usize, quoted: bool, u: Seen, t: &[u8]) -> usize
-    ensures { Laid quoted (shown_one u t.now) at out.old result out.new }
+// What is laid of each character of a text, and of each byte of none.
+pub trait Walker: Copy {
+    // Whether the bytes stand in a string of JSON.
+    ghost quoted: { Self → Bool };
+
+    // The bytes of what stands at the front of a text.
+    ghost made: { Self → Seen → List ℕ → List ℕ };
+
+    fn put_one(self, out: &mut [u8], at: usize, u: Seen, t: &[u8]) -> usize
+        ensures { Laid (quoted self) (made self u t.now) at out.old result out.new };
+}
+
+// A text, character by character.
+pub fn put_walked<W: Walker>(out: &mut [u8], at: usize, t: &[u8], walker: W) -> usize
+    ensures { Laid (W.quoted walker) (walked (W.made walker) 0 t.now) at out.old result out.new }
 {
-    match u.kind {
-        Showing::ByNumber => put_by_number(out, at, quoted, u.code),
-        Showing::AsByte => put_as_byte(out, at, quoted, u.code),
-        _ => put(out, at, quoted, part(t, 0, u.size)),
+    let mut next = at;
+    let mut i = 0;
+    while i < t.len() {
+        let u = seen_at(t, i);
+        next = walker.put_one(out, next, u, &t[i..]);
+        i += u.size;
+    }
+    next
+}
+
+// Each character as it is shown.
+#[derive(Clone, Copy)]
+struct AsShown {
+    quoted: bool,
+}
+
+impl Walker for AsShown {
+    ghost quoted = { λ s. s.quoted };
+
+    ghost made = { λ s u t. shown_one u t };
+
+    fn put_one(self, out: &mut [u8], at: usize, u: Seen, t: &[u8]) -> usize {
+        match u.kind {
+            Showing::ByNumber => put_by_number(out, at, self.quoted, u.code),
+            Showing::AsByte => put_as_byte(out, at, self.quoted, u.code),
+            _ => put(out, at, self.quoted, part(t, 0, u.size)),
+        }
     }
 }
 
@@ -140,14 +176,7 @@ fn put_one(out: &mut [u8], at: usize, quoted: bool, u: Seen, t: &[u8]) -> usize
 pub fn put_shown(out: &mut [u8], at: usize, quoted: bool, t: &[u8]) -> usize
     ensures { Laid quoted (shown t.now) at out.old result out.new }
 {
-    let mut next = at;
-    let mut i = 0;
-    while i < t.len() {
-        let u = seen_at(t, i);
-        next = put_one(out, next, quoted, u, &t[i..]);
-        i += u.size;
-    }
-    next
+    put_walked(out, at, t, AsShown { quoted })
 }
 
 fn columns_of(u: Seen) -> usize
@@ -170,28 +199,30 @@ fn is_copied(mark: u8, kind: Showing) -> bool
     mark == b' ' && matches!(kind, Showing::Tab)
 }
 
-// What stands under one character.
-fn put_under_one(out: &mut [u8], at: usize, mark: u8, u: Seen) -> usize
-    ensures { Laid false (under_one mark u []) at out.old result out.new }
-{
-    if is_copied(mark, u.kind) {
-        return put_byte(out, at, false, b'\t');
+// What stands under each character.
+#[derive(Clone, Copy)]
+struct Under {
+    mark: u8,
+}
+
+impl Walker for Under {
+    ghost quoted = { λ s. false };
+
+    ghost made = { λ s u t. under_one s.mark u t };
+
+    fn put_one(self, out: &mut [u8], at: usize, u: Seen, t: &[u8]) -> usize {
+        if is_copied(self.mark, u.kind) {
+            return put_byte(out, at, false, b'\t');
+        }
+        put_run(out, at, false, self.mark, columns_of(u))
     }
-    put_run(out, at, false, mark, columns_of(u))
 }
 
 // What stands under a text.
 pub fn put_under(out: &mut [u8], at: usize, mark: u8, t: &[u8]) -> usize
     ensures { Laid false (under mark t.now) at out.old result out.new }
 {
-    let mut next = at;
-    let mut i = 0;
-    while i < t.len() {
-        let u = seen_at(t, i);
-        next = put_under_one(out, next, mark, u);
-        i += u.size;
-    }
-    next
+    put_walked(out, at, t, Under { mark })
 }
 
 // Whether a text takes no column.

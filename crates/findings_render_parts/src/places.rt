@@ -4,7 +4,7 @@ ghost use Rattle.laws.specs.Quoted.{within};
 ghost use Rattle.findings_render_parts.specs.Spots.{IsPlace, count_in, start_of, line_number, column_number, cut_return, end_of, later, next_character, shown_from, shown_to, window_of};
 
 use crate::Window;
-use byte_runs::find;
+use byte_runs::{ByteClass, bytes_end, find};
 use chars::{TAIL_HIGH, TAIL_LOW, between};
 
 // How many bytes of a line are shown, and of a longer one how many before the place.
@@ -76,18 +76,23 @@ fn line_end(s: &[u8], at: usize) -> usize
     cut_return(s, line_start(s, at), find(s, at, b'\n'))
 }
 
+// The bytes that continue a character.
+#[derive(Clone, Copy)]
+struct Tail;
+
+impl ByteClass for Tail {
+    ghost passes = { λ s c. later c };
+
+    fn ends(self, c: u8) -> bool {
+        !between(TAIL_LOW, TAIL_HIGH, c)
+    }
+}
+
 // The first place from one on that does not lie in a character.
 fn next_character(s: &[u8], at: usize) -> usize
     ensures { result ≡ next_character s.now at }
 {
-    let mut i = at;
-    while i < s.len() {
-        if !between(TAIL_LOW, TAIL_HIGH, s[i]) {
-            return i;
-        }
-        i += 1;
-    }
-    i
+    bytes_end(s, at, Tail)
 }
 
 fn shown_from(s: &[u8], start: usize, end: usize, at: usize) -> usize

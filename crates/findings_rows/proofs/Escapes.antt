@@ -1,7 +1,7 @@
 -- The tests of a slip, and the search for the quote that closes its text, a byte at a time.
 use Rattle.std.proofs.Common.{None, Some}
 use Prim.Native.Nat.{ℕ, ◌+◌, ◌-◌, ◌≤◌, ◌<◌}
-use mathlib.Core.Path.{◌≡◌, refl, sym, ap, ◌∙◌}
+use mathlib.Core.Path.{◌≡◌, sym, ap, ◌∙◌}
 use mathlib.Core.Bool.{Bool, true, false}
 use mathlib.Core.List.{List, ◌∷◌}
 use lib.ListN.{length, get_or, drop, drop_of_length-le}
@@ -9,9 +9,8 @@ use lib.Seq.{drop-cons}
 use lib.Dec.{eqb}
 use native.Mathlib.Numerals.{add-one}
 use native.Mathlib.Omega.{arith}
-use borrow.Author.Tests.{eq-eqb, ne_eqb, eqb-true}
+use borrow.Author.Tests.{eq-eqb, ne_eqb}
 use Rattle.laws.specs.Quoted.{code, one_of}
-use Rattle.laws.proofs.Choice.{by_bool, impossible}
 use Rattle.items.specs.Kinds as kind
 use Rattle.findings_rows.specs.Mended.{escape_errors, closing, rest_from}
 
@@ -28,26 +27,6 @@ module _ (k : ℕ) where
         ne_eqb k 111 (λ e. omega arith),
         ne_eqb k 112 (λ e. omega arith),
       ))
-
-  pub is_error_lem : (n : ℕ) → kind.first_error ≤ k → k - kind.first_error ≡ n → one_of escape_errors (kind.first_error + n) ≡ true → true ≡ one_of escape_errors k
-  is_error_lem n h e t = let z : k ≡ kind.first_error + n = omega arith in sym (ap (one_of escape_errors) z ∙ t)
-
-  pub last_error_holds : kind.first_error ≤ k → (k - kind.first_error ≡ 5 → ⊥) → (k - kind.first_error ≡ 6 → ⊥) → (k - kind.first_error ≡ 9 → ⊥)
-      → (k - kind.first_error ≡ 11 → ⊥) → eqb (k - kind.first_error) 12 ≡ one_of escape_errors k
-  last_error_holds h a b c d = by_bool (eqb (k - kind.first_error) 12)
-      (λ t. t ∙ is_error_lem 12 h (eqb-true (k - kind.first_error) 12 t) refl)
-      (λ t. t
-      ∙ sym
-      (rw (
-        ne_eqb k 105 (λ e. a (omega arith)),
-        ne_eqb k 106 (λ e. b (omega arith)),
-        ne_eqb k 109 (λ e. c (omega arith)),
-        ne_eqb k 111 (λ e. d (omega arith)),
-        ne_eqb k 112 (λ e. let z : k - kind.first_error ≡ 12 = omega arith in false-true (sym t ∙ eq-eqb (k - kind.first_error) 12 z)),
-      )))
-    where
-      false-true : false ≡ true → ⊥
-      false-true e = impossible cc
 
 -- ---- the closing quote
 

@@ -18,23 +18,15 @@ use lexer::{Found, Spot};
 fn is_escape_error(kind: u32) -> bool
     ensures { result ≡ one_of escape_errors kind }
 {
-    if kind < FIRST_ERROR {
-        return false;
-    }
-    let n = kind - FIRST_ERROR;
-    if n == INVALID_WHITESPACE {
-        return true;
-    }
-    if n == INVALID_STRING_ESCAPE {
-        return true;
-    }
-    if n == UNCLOSED_HEX_ESCAPE {
-        return true;
-    }
-    if n == INVALID_HEX_ESCAPE_LITERAL {
-        return true;
-    }
-    n == INVALID_HEX_CODE_POINT
+    FIRST_ERROR <= kind
+        && matches!(
+            kind - FIRST_ERROR,
+            INVALID_WHITESPACE
+                | INVALID_STRING_ESCAPE
+                | UNCLOSED_HEX_ESCAPE
+                | INVALID_HEX_ESCAPE_LITERAL
+                | INVALID_HEX_CODE_POINT
+        )
 }
 
 // Whether a character literal stands at a place.
@@ -42,10 +34,7 @@ fn character_at(source: &[u8], at: usize) -> bool
     requires { at ≤ limit }
     ensures { result ≡ character_at source.now at }
 {
-    if starts_at(source, at, b'#') {
-        return starts_at(source, at + 1, b'\\');
-    }
-    false
+    starts_at(source, at, b'#') && starts_at(source, at + 1, b'\\')
 }
 
 // Whether an item of a kind, whose extent starts at a place, is a slip.
@@ -53,10 +42,7 @@ pub fn is_slip(source: &[u8], kind: u32, start: usize) -> bool
     requires { start ≤ limit }
     ensures { result ≡ slips source.now kind start }
 {
-    if is_escape_error(kind) {
-        return !character_at(source, start);
-    }
-    false
+    is_escape_error(kind) && !character_at(source, start)
 }
 
 // The quote that closes an extent that starts at a place.

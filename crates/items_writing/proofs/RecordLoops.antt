@@ -15,7 +15,7 @@ use Rattle.refusal.specs.Refusals as refusal
 use Rattle.items_writing.specs.declared.WriteWords.{WriteWords}
 use Rattle.items_writing.specs.declared.WriteTurn.{WriteTurn}
 use Rattle.items_writing.specs.Records.{count_of, words_at, is_right, entry_of}
-use Rattle.items_writing.specs.Pieces.{body_of, lone, shown, piece, entry_at, onward, TurnSaid, Measured}
+use Rattle.items_writing.specs.Pieces.{body_of, lone, shown, piece, onward, TurnSaid, TakenSaid, Measured}
 use Rattle.items_writing.proofs.RightRecords.{body_short}
 use Rattle.items_writing.proofs.QuotedBytes.{lone_few, shown_few}
 use Rattle.items_writing.proofs.PieceByPiece.{at_end_case}
@@ -36,21 +36,23 @@ module _ {records source text : List ℕ} {first : Bool} {p : ℕ} {t : WriteTur
   pub turn_right : is_right source text w ≡ true
   turn_right = ap (is_right source text) e ∙ said.body_right
 
-  module _ {b : List ℕ} (y : b ≡ body_of (entry_of source text w)) where
-    body_is : b ≡ body_of (entry_at records source text t.last)
-    body_is = y ∙ ap (λ (u : WriteWords). body_of (entry_of source text u)) e
+  pub turn_taken : {b : List ℕ} → b ≡ body_of (entry_of source text w) → w.past ≤ refusal.limit → w.«end» ≤ refusal.limit
+      → TakenSaid records source text first p t b
+  turn_taken {b} y l g = record {
+    turn = said;
+    body = y ∙ ap (λ (u : WriteWords). body_of (entry_of source text u)) e;
+    short = omega (arith, ap length y, body_short source text w turn_right refusal.limit l g);
+  }
 
-    pub turn_short : (m : ℕ) → w.past ≤ m → w.«end» ≤ m → length b ≤ m
-    turn_short m l g = omega (arith, ap length y, body_short source text w turn_right m l g)
+module _ {records source text : List ℕ} {first : Bool} {p : ℕ} {t : WriteTurn} {b : List ℕ} (said : TakenSaid records source text first p t b) where
+  pub turn_fits : {r : ℕ} → r ≡ length (piece first t.pair t.form b) → r ≤ 2 * refusal.limit + 4
+  turn_fits q = omega (arith, said.short, piece_few first t.pair t.form b)
 
-    pub turn_fits : (m : ℕ) → w.past ≤ m → w.«end» ≤ m → {r : ℕ} → r ≡ length (piece first t.pair t.form b) → r ≤ 2 * m + 4
-    turn_fits m l g q = omega (arith, turn_short m l g, piece_few first t.pair t.form b)
+  pub turn_goes : onward records source text first p ≡ piece first t.pair t.form b ++ onward records source text false (t.last + 1)
+  turn_goes = said.turn.goes ∙ ap (λ (l : List ℕ). piece first t.pair t.form l ++ onward records source text false (t.last + 1)) (sym said.body)
 
-    pub turn_goes : onward records source text first p ≡ piece first t.pair t.form b ++ onward records source text false (t.last + 1)
-    turn_goes = said.goes ∙ ap (λ (l : List ℕ). piece first t.pair t.form l ++ onward records source text false (t.last + 1)) (sym body_is)
-
-    pub turn_size : length (onward records source text first p) ≡ length (piece first t.pair t.form b) + length (onward records source text false (t.last + 1))
-    turn_size = ap length turn_goes ∙ length-append (piece first t.pair t.form b) (onward records source text false (t.last + 1))
+  pub turn_size : length (onward records source text first p) ≡ length (piece first t.pair t.form b) + length (onward records source text false (t.last + 1))
+  turn_size = ap length turn_goes ∙ length-append (piece first t.pair t.form b) (onward records source text false (t.last + 1))
 
 pub none_left : (records source text : List ℕ) (first : Bool) (p : ℕ) → count_of records ≤ p → length (onward records source text first p) ≡ 0
 none_left records source text first p h = ap length (at_end_case records source text first p h)
@@ -86,12 +88,12 @@ module _ (records source text : List ℕ) where
         let e : all ≡ l.done = l.splits ∙ (ap (λ (x : List ℕ). l.done ++ x) (at_end_case records source text first p h) ∙ append-nil l.done) in
         l.memory ∙ ap (λ (x : List ℕ). lent.written x old) (sym e)
 
-    module _ {t : WriteTurn} (said : TurnSaid records source text first p t) {w : WriteWords} (e : w ≡ words_at records t.last) {b : List ℕ} (y : b ≡ body_of (entry_of source text w)) where
+    module _ {t : WriteTurn} {b : List ℕ} (said : TakenSaid records source text first p t b) where
       abbrev next : List ℕ
       next = piece first t.pair t.form b
 
       pub put_room : n + length next ≤ length out
-      put_room = omega (arith, whole_size, put_length, turn_size said e y)
+      put_room = omega (arith, whole_size, put_length, turn_size said)
 
       pub put_part : length next ≤ length (take (length out - n) (drop n out))
       put_part = omega (arith, length_part out n, put_room)
@@ -99,10 +101,10 @@ module _ (records source text : List ℕ) where
       pub put_on : {last : List ℕ} {r : ℕ} → last ≡ lent.written next (take (length out - n) (drop n out)) → r ≡ length next
           → Put all old (put_mid n (length out - n) out last) (n + r) (t.last + 1) false
       put_on {last} {r} v q = record {
-        inside = omega (arith, said.inside);
+        inside = omega (arith, said.turn.inside);
         done = l.done ++ next;
         splits =
-            l.splits ∙ (ap (λ (x : List ℕ). l.done ++ x) (turn_goes said e y)
+            l.splits ∙ (ap (λ (x : List ℕ). l.done ++ x) (turn_goes said)
             ∙ sym (append_assoc l.done next (onward records source text false (t.last + 1))));
         size = omega (arith, l.size, length-append l.done next);
         memory = part_written l.done next old l.memory (sym l.size) (omega (arith, whole_size, l.size)) v;

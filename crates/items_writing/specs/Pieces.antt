@@ -72,6 +72,12 @@ pub record TurnSaid (records source text : List ℕ) (first : Bool) (p : ℕ) (t
   pub body_right : is_right source text (words_at records t.last) ≡ true
   pub goes : onward records source text first p ≡ piece first t.pair t.form (body_of (entry_at records source text t.last)) ++ onward records source text false (t.last + 1)
 
+-- a turn from p on with the bytes that its last word is made of, which are no more than the limit
+pub record TakenSaid (records source text : List ℕ) (first : Bool) (p : ℕ) (t : WriteTurn) (b : List ℕ) : Type 0 where
+  pub turn : TurnSaid records source text first p t
+  pub body : b ≡ body_of (entry_at records source text t.last)
+  pub short : length b ≤ refusal.limit
+
 -- how many bytes are written: exactly, where they do not pass the limit
 pub record Measured (w : List ℕ) (n : ℕ) : Type 0 where
   pub within : n ≤ refusal.limit → n ≡ length w

@@ -58,6 +58,13 @@ pub struct WriteTurn {
     pub form: Option<Quotes>,
 }
 
+// A turn, with the bytes that its word is made of.
+#[derive(Clone, Copy)]
+struct Taken<'a> {
+    turn: WriteTurn,
+    body: &'a [u8],
+}
+
 // How many bytes the result has, as far as the limit.
 fn measure<'a>(records: &[u32], source: &'a [u8], text: &'a [u8]) -> usize
     requires { AllRight source.now text.now (records_in records.now) }
@@ -68,14 +75,12 @@ fn measure<'a>(records: &[u32], source: &'a [u8], text: &'a [u8]) -> usize
     let mut p = 0;
     let mut first = true;
     while p < count {
-        let turn = turning::turn_at(records, source, text, p, first);
-        let last = turn.last;
-        let w = records::words_at(records, last);
-        n += turning::piece_length(records::body_of(source, text, w), turn, first);
+        let Taken { turn, body } = turning::taken(records, source, text, p, first);
+        n += turning::piece_length(body, turn, first);
         if LIMIT < n {
             return n;
         }
-        p = last + 1;
+        p = turn.last + 1;
         first = false;
     }
     n
@@ -92,16 +97,9 @@ fn put<'a>(records: &[u32], source: &'a [u8], text: &'a [u8], out: &mut [u8])
     let mut p = 0;
     let mut first = true;
     while p < count {
-        let turn = turning::turn_at(records, source, text, p, first);
-        let last = turn.last;
-        let w = records::words_at(records, last);
-        n += turning::put_piece(
-            records::body_of(source, text, w),
-            turn,
-            first,
-            &mut out[n..],
-        );
-        p = last + 1;
+        let Taken { turn, body } = turning::taken(records, source, text, p, first);
+        n += turning::put_piece(body, turn, first, &mut out[n..]);
+        p = turn.last + 1;
         first = false;
     }
 }

@@ -6,12 +6,12 @@ ghost use Rattle.refusal.specs.Refusals as refusal;
 ghost use Rattle.chars.specs.Utf8.{first_bad};
 ghost use Rattle.items_writing.specs.Written.{joined};
 ghost use Rattle.items_writing.specs.Records.{count_of, records_in, is_right, entry_of};
-ghost use Rattle.items_writing.specs.Pieces.{form_for, piece, AllRight, TurnSaid};
+ghost use Rattle.items_writing.specs.Pieces.{form_for, piece, AllRight, TurnSaid, TakenSaid};
 
 use crate::quoting::{lone_length, put_lone, put_shown, shown_length};
 use crate::records::{body_of, text_of, words_at};
 use crate::word::{reads_bare, reads_pair};
-use crate::{WriteTurn, WriteWords};
+use crate::{Taken, WriteTurn, WriteWords};
 use items::{Quotes, RECORD_WORDS, kinds};
 
 // The form of an item of a kind, whose word is made of t.
@@ -41,7 +41,7 @@ fn joins<'a>(source: &'a [u8], text: &'a [u8], e: WriteWords, f: WriteWords) -> 
 }
 
 // The turn at a place of records that are not refused.
-pub fn turn_at<'a>(
+fn turn_at<'a>(
     records: &[u32],
     source: &'a [u8],
     text: &'a [u8],
@@ -72,6 +72,25 @@ pub fn turn_at<'a>(
         last: p,
         pair: false,
         form: form_for(e.kind, body_of(source, text, e), first, true),
+    }
+}
+
+// The same, with the bytes of its word.
+pub fn taken<'a>(
+    records: &[u32],
+    source: &'a [u8],
+    text: &'a [u8],
+    p: usize,
+    first: bool,
+) -> Taken<'a>
+    requires { (p < count_of records.now) × AllRight source.now text.now (records_in records.now) }
+    ensures { TakenSaid records.now source.now text.now first p result.turn result.body.now }
+{
+    let turn = turn_at(records, source, text, p, first);
+    let w = words_at(records, turn.last);
+    Taken {
+        turn,
+        body: body_of(source, text, w),
     }
 }
 

@@ -12,18 +12,33 @@ use items::RECORD_WORDS;
 use items::modes::REPORT;
 use refusal::LIMIT;
 
+// The parts of a source: the places where they end, whether each is known to be UTF-8, and how they are read.
+#[derive(Clone, Copy)]
+struct Parts<'a> {
+    source: &'a [u8],
+    ends: &'a [u32],
+    known: bool,
+    mode: u32,
+    skip: bool,
+}
+
 // What the parts need together.
-fn count(source: &[u8], ends: &[u32], known: bool, mode: u32, skip: bool) -> Total
-    requires fine { Fine source.now ends.now mode }
-    requires all_known { AllKnown known source.now ends.now mode skip }
-    ensures { result ≡ total_of (fields_in source.now ends.now mode skip) }
+fn count(parts: Parts<'_>) -> Total
+    requires fine { Fine parts.source.now parts.ends.now parts.mode }
+    requires all_known { AllKnown parts.known parts.source.now parts.ends.now parts.mode parts.skip }
+    ensures { result ≡ total_of (fields_in parts.entry.source.now parts.entry.ends.now parts.entry.mode parts.entry.skip) }
 {
     let mut from: usize = 0;
     let mut n: usize = 0;
     let mut free: usize = 0;
-    for place in ends {
+    for place in parts.ends {
         let end = *place as usize;
-        let p = count_part(&source[from..end], known, mode, skip);
+        let p = count_part(
+            &parts.source[from..end],
+            parts.known,
+            parts.mode,
+            parts.skip,
+        );
         n += p.items;
         free += p.text;
         from = end;
@@ -35,32 +50,30 @@ fn count(source: &[u8], ends: &[u32], known: bool, mode: u32, skip: bool) -> Tot
 }
 
 // Writes the parts' rows, records and decoded texts; answers how many records and bytes those are.
-fn write(
-    source: &[u8],
-    ends: &[u32],
-    known: bool,
-    mode: u32,
-    skip: bool,
-    rows: &mut [u32],
-    recs: &mut [u32],
-    text: &mut [u8],
-) -> Total
-    requires fine { Fine source.now ends.now mode }
-    requires all_known { AllKnown known source.now ends.now mode skip }
-    requires room { Room source.now ends.now mode skip rows.old recs.old text.old }
-    ensures value { result ≡ total_of (fields_in source.now ends.now mode skip) }
-    ensures rows_after { rows.new ≡ written (rows_from 0 0 (fields_in source.now ends.now mode skip)) rows.old }
-    ensures recs_after { recs.new ≡ written (records_in (fields_in source.now ends.now mode skip)) recs.old }
-    ensures text_after { text.new ≡ written (texts_in (fields_in source.now ends.now mode skip)) text.old }
+fn write(parts: Parts<'_>, rows: &mut [u32], recs: &mut [u32], text: &mut [u8]) -> Total
+    requires fine { Fine parts.source.now parts.ends.now parts.mode }
+    requires all_known { AllKnown parts.known parts.source.now parts.ends.now parts.mode parts.skip }
+    requires room { Room parts.source.now parts.ends.now parts.mode parts.skip rows.old recs.old text.old }
+    ensures value { result ≡ total_of (fields_in parts.entry.source.now parts.entry.ends.now parts.entry.mode parts.entry.skip) }
+    ensures rows_after { rows.new ≡ written (rows_from 0 0 (fields_in parts.entry.source.now parts.entry.ends.now parts.entry.mode parts.entry.skip)) rows.old }
+    ensures recs_after { recs.new ≡ written (records_in (fields_in parts.entry.source.now parts.entry.ends.now parts.entry.mode parts.entry.skip)) recs.old }
+    ensures text_after { text.new ≡ written (texts_in (fields_in parts.entry.source.now parts.entry.ends.now parts.entry.mode parts.entry.skip)) text.old }
 {
     let mut from: usize = 0;
     let mut n: usize = 0;
     let mut w: usize = 0;
     let mut free: usize = 0;
-    for (i, place) in ends.iter().enumerate() {
+    for (i, place) in parts.ends.iter().enumerate() {
         let end = *place as usize;
-        let part = &source[from..end];
-        let p = write_part(part, known, mode, skip, &mut recs[w..], &mut text[free..]);
+        let part = &parts.source[from..end];
+        let p = write_part(
+            part,
+            parts.known,
+            parts.mode,
+            parts.skip,
+            &mut recs[w..],
+            &mut text[free..],
+        );
         put_row(&mut rows[i * ROW..], n as u32, free as u32, p.mark, p.place);
         n += p.items;
         w = n * RECORD_WORDS;
@@ -75,55 +88,47 @@ fn write(
 
 // The parts into lent memory, if they fit: they are counted first.
 fn deliver_counted(
-    source: &[u8],
-    ends: &[u32],
-    known: bool,
-    mode: u32,
-    skip: bool,
+    parts: Parts<'_>,
     rows: &mut [u32],
     recs: &mut [u32],
     text: &mut [u8],
 ) -> Result<Total, FieldsError>
-    requires fine { Fine source.now ends.now mode }
-    requires all_known { AllKnown known source.now ends.now mode skip }
+    requires fine { Fine parts.source.now parts.ends.now parts.mode }
+    requires all_known { AllKnown parts.known parts.source.now parts.ends.now parts.mode parts.skip }
     ensures { fields_call (answer_of result) rows.new recs.new text.new
-        ≡ deliver_fields (fields_in source.now ends.now mode skip) rows.old recs.old text.old }
+        ≡ deliver_fields (fields_in parts.entry.source.now parts.entry.ends.now parts.entry.mode parts.entry.skip) rows.old recs.old text.old }
 {
-    let needed = count(source, ends, known, mode, skip);
-    if rows.len() / ROW < ends.len()
+    let needed = count(parts);
+    if rows.len() / ROW < parts.ends.len()
         || recs.len() / RECORD_WORDS < needed.items
         || text.len() < needed.text
     {
         return Err(FieldsError::NoRoom(needed));
     }
-    write(source, ends, known, mode, skip, rows, recs, text);
+    write(parts, rows, recs, text);
     Ok(needed)
 }
 
 // The parts into lent memory, if they fit. Where there is a row for each part, and a record and a byte of text memory for each byte of
 // the source, they do, and nothing is counted.
 fn deliver(
-    source: &[u8],
-    ends: &[u32],
-    known: bool,
-    mode: u32,
-    skip: bool,
+    parts: Parts<'_>,
     rows: &mut [u32],
     recs: &mut [u32],
     text: &mut [u8],
 ) -> Result<Total, FieldsError>
-    requires fine { Fine source.now ends.now mode }
-    requires all_known { AllKnown known source.now ends.now mode skip }
+    requires fine { Fine parts.source.now parts.ends.now parts.mode }
+    requires all_known { AllKnown parts.known parts.source.now parts.ends.now parts.mode parts.skip }
     ensures { fields_call (answer_of result) rows.new recs.new text.new
-        ≡ deliver_fields (fields_in source.now ends.now mode skip) rows.old recs.old text.old }
+        ≡ deliver_fields (fields_in parts.entry.source.now parts.entry.ends.now parts.entry.mode parts.entry.skip) rows.old recs.old text.old }
 {
-    if rows.len() / ROW < ends.len()
-        || recs.len() / RECORD_WORDS < source.len()
-        || text.len() < source.len()
+    if rows.len() / ROW < parts.ends.len()
+        || recs.len() / RECORD_WORDS < parts.source.len()
+        || text.len() < parts.source.len()
     {
-        return deliver_counted(source, ends, known, mode, skip, rows, recs, text);
+        return deliver_counted(parts, rows, recs, text);
     }
-    Ok(write(source, ends, known, mode, skip, rows, recs, text))
+    Ok(write(parts, rows, recs, text))
 }
 
 // The parts into lent memory, if the source is not too long and they fit; whether no end lies inside a character is known.
@@ -144,8 +149,14 @@ fn deliver_cut(
     if LIMIT < source.len() {
         return Err(FieldsError::TooLong);
     }
-    let known = all_known(source, clean);
-    deliver(source, ends, known, mode, skip, rows, recs, text)
+    let parts = Parts {
+        source,
+        ends,
+        known: all_known(source, clean),
+        mode,
+        skip,
+    };
+    deliver(parts, rows, recs, text)
 }
 
 // Each part of a source as a text of its own: a row for each part, and their records and decoded texts, in lent memory. Part i goes from

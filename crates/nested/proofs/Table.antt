@@ -2,15 +2,18 @@
 use Prim.Native.Nat.{ℕ, ◌≤◌, ◌<◌}
 use native.Mathlib.Omega.{arith}
 use mathlib.Core.Path.{◌≡◌, refl, sym, ap, ◌∙◌}
-use mathlib.Core.Bool.{Bool, true, false, cond, not}
+use mathlib.Core.Bool.{Bool, true, false, cond}
 use lib.Dec.{eqb, leb, ltb}
-use borrow.Author.Tests.{ne_eqb, le-leb, lt-leb, ltb-true, leb-true, leb-false, eqb-true, eqb-false, not-true}
+use borrow.Author.Tests.{ne_eqb, le-leb, lt-leb, ltb-true, leb-true, leb-false, eqb-true, eqb-false}
+use Rattle.std.specs.Prelude.{Option, None, Some}
+use Rattle.std.specs.Option.{is_some}
+use Rattle.std.proofs.lemmas.Option.{none-some, same_Some}
 use Rattle.laws.proofs.Choice.{impossible}
 use Rattle.chars.specs.Encode.{is_scalar}
 use Rattle.items.specs.Kinds as kind
 use Rattle.nested.specs.Items.{has_detail, sort_of, class_of, boolean, number, character, string, symbol}
 use Rattle.nested.specs.Grammar.{closer}
-use Rattle.nested.specs.Said.{no_simple, PlainSaid, SimpleSaid, IsSimple}
+use Rattle.nested.specs.Said.{PlainSaid, SimpleSaid, IsSimple}
 use Rattle.nested.specs.declared.Class.{Class}
 use Rattle.nested.specs.declared.Class.TheVariants.{Simple, Closes}
 
@@ -63,26 +66,28 @@ class_close d h = rw (le-leb d kind.Curly h)
 
 -- ---- what is said of a node's kind
 
-pub no_simple_lem : (k d : ℕ) → SimpleSaid k d no_simple
-no_simple_lem k d z = absurd (z refl)
+pub no_simple_lem : (k d : ℕ) → SimpleSaid k d None
+no_simple_lem k d m e = absurd (none-some m e)
 
-pub plain_word : (k d r : ℕ) → kind.UnquoteSpliceSyntax < k → k ≤ kind.Require → PlainSaid symbol d r → SimpleSaid k d r
-plain_word k d r l h p z = ap (λ (n : ℕ). class_of k n) (p z).1 ∙ class_word k l h ∙ ap Simple (sym (p z).0)
+pub plain_word : (k d : ℕ) (r : Option ℕ) → kind.UnquoteSpliceSyntax < k → k ≤ kind.Require → PlainSaid symbol d r → SimpleSaid k d r
+plain_word k d r l h p m e = ap (λ (n : ℕ). class_of k n) (p m e).1 ∙ class_word k l h ∙ ap Simple (sym (p m e).0)
 
-pub plain_name : (k d r : ℕ) → kind.BooleanLiteral < k → k ≤ kind.Keyword → PlainSaid symbol d r → SimpleSaid k d r
-plain_name k d r l h p z = ap (λ (n : ℕ). class_of k n) (p z).1 ∙ class_name k l h ∙ ap Simple (sym (p z).0)
+pub plain_name : (k d : ℕ) (r : Option ℕ) → kind.BooleanLiteral < k → k ≤ kind.Keyword → PlainSaid symbol d r → SimpleSaid k d r
+plain_name k d r l h p m e = ap (λ (n : ℕ). class_of k n) (p m e).1 ∙ class_name k l h ∙ ap Simple (sym (p m e).0)
 
-pub plain_number : (k d r : ℕ) → k ≡ kind.Number → PlainSaid number d r → SimpleSaid k d r
-plain_number k d r e p z = ap (λ (n : ℕ). class_of n d) e ∙ ap (λ (n : ℕ). class_of kind.Number n) (p z).1 ∙ class_number ∙ ap Simple (sym (p z).0)
+pub plain_number : (k d : ℕ) (r : Option ℕ) → k ≡ kind.Number → PlainSaid number d r → SimpleSaid k d r
+plain_number k d r i p m e =
+    ap (λ (n : ℕ). class_of n d) i ∙ ap (λ (n : ℕ). class_of kind.Number n) (p m e).1 ∙ class_number ∙ ap Simple (sym (p m e).0)
 
-pub plain_string : (k d r : ℕ) → k ≡ kind.StringLiteral → PlainSaid string d r → SimpleSaid k d r
-plain_string k d r e p z = ap (λ (n : ℕ). class_of n d) e ∙ ap (λ (n : ℕ). class_of kind.StringLiteral n) (p z).1 ∙ class_string ∙ ap Simple (sym (p z).0)
+pub plain_string : (k d : ℕ) (r : Option ℕ) → k ≡ kind.StringLiteral → PlainSaid string d r → SimpleSaid k d r
+plain_string k d r i p m e =
+    ap (λ (n : ℕ). class_of n d) i ∙ ap (λ (n : ℕ). class_of kind.StringLiteral n) (p m e).1 ∙ class_string ∙ ap Simple (sym (p m e).0)
 
-pub boolean_said : (k d : ℕ) → k ≡ kind.BooleanLiteral → d ≤ 1 → SimpleSaid k d boolean
-boolean_said k d e h z = ap (λ (n : ℕ). class_of n d) e ∙ class_boolean d h
+pub boolean_said : (k d : ℕ) → k ≡ kind.BooleanLiteral → d ≤ 1 → SimpleSaid k d (Some boolean)
+boolean_said k d i h m e = ap (λ (n : ℕ). class_of n d) i ∙ class_boolean d h ∙ ap Simple (same_Some _ _ e)
 
-pub character_said : (k d : ℕ) → k ≡ kind.CharacterLiteral → is_scalar d ≡ true → SimpleSaid k d character
-character_said k d e h z = ap (λ (n : ℕ). class_of n d) e ∙ class_character d h
+pub character_said : (k d : ℕ) → k ≡ kind.CharacterLiteral → is_scalar d ≡ true → SimpleSaid k d (Some character)
+character_said k d i h m e = ap (λ (n : ℕ). class_of n d) i ∙ class_character d h ∙ ap Simple (same_Some _ _ e)
 
 pub frequent_said : (k d : ℕ) → kind.BooleanLiteral < k → k ≤ kind.StringLiteral → IsSimple (class_of k d) (eqb d 0)
 frequent_said k d l h z = go (leb k kind.Keyword) (eqb k kind.Number) refl refl
@@ -97,8 +102,9 @@ frequent_said k d l h z = go (leb k kind.Keyword) (eqb k kind.Number) refl refl
         let last : k ≡ kind.StringLiteral = omega (arith, leb-false k kind.Keyword e, eqb-false k kind.Number q) in
         (string, at_zero ∙ ap (λ (n : ℕ). class_of n 0) last ∙ class_string)
 
-pub rare_said : (k d r : ℕ) → SimpleSaid k d r → IsSimple (class_of k d) (not (eqb r no_simple))
-rare_said k d r h z = (r, h (eqb-false r no_simple (not-true (eqb r no_simple) z)))
+pub rare_said : (k d : ℕ) (r : Option ℕ) → SimpleSaid k d r → IsSimple (class_of k d) (is_some r)
+rare_said k d None h z = impossible cc
+rare_said k d (Some m) h z = (m, h m refl)
 
 pub none_said : (c : Class) → IsSimple c false
 none_said c z = impossible cc

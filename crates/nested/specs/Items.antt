@@ -83,8 +83,15 @@ pub data Item : Type 0 where
 abbrev pub count_of : List ℕ → ℕ
 count_of s = length s / record_words
 
+-- the kind and the detail of the record at a place
+abbrev pub kind_at : List ℕ → ℕ → ℕ
+kind_at s p = get_or s (p * record_words) 0
+
+abbrev pub detail_at : List ℕ → ℕ → ℕ
+detail_at s p = get_or s (p * record_words + 1) 0
+
 abbrev pub class_at : List ℕ → ℕ → Class
-class_at s p = class_of (get_or s (p * record_words) 0) (get_or s (p * record_words + 1) 0)
+class_at s p = class_of (kind_at s p) (detail_at s p)
 
 unfoldable pub items_from : ℕ → ℕ → List ℕ → List Item
 items_from zero p s = []

@@ -2,16 +2,13 @@
 // layout has.
 ghost use Rattle.std.specs.Prelude.{◌≡◌, ◌<◌};
 ghost use Rattle.items.specs.Kinds as kind;
-ghost use Rattle.nested.specs.Items.{has_detail, sort_of, class_of, class_at, count_of};
+ghost use Rattle.nested.specs.Items.{has_detail, sort_of, kind_at, detail_at, class_of, class_at, count_of};
 ghost use Rattle.nested.specs.Said.{PlainSaid, SimpleSaid, SimpleAt, IsSimple, ClosesSaid};
 
 use crate::refusals::closer_of;
 use crate::{Class, nodes};
 use chars::is_scalar;
 use items::{RECORD_WORDS, kinds};
-
-// The node's kind that no simple datum has.
-pub const NO_SIMPLE: u32 = nodes::NODE_MARK + 1;
 
 // Whether a kind has this detail in the layout.
 fn has_detail(k: u32, d: u32) -> bool
@@ -75,19 +72,19 @@ fn sort(k: u32, d: u32) -> Class
     Class::Dots
 }
 
-// The node's kind of a datum whose kind has no details; NO_SIMPLE where one stands.
-fn plain_kind(kind: u32, d: u32) -> u32
+// The node's kind of a datum whose kind has no details; none where one stands.
+fn plain_kind(kind: u32, d: u32) -> Option<u32>
     ensures { PlainSaid kind d result }
 {
     if d == kinds::NO_DETAIL {
-        kind
+        Some(kind)
     } else {
-        NO_SIMPLE
+        None
     }
 }
 
 // The node's kind of a simple datum that is rare in plans: a string, a boolean, a character, a word such as if.
-fn rare_kind(k: u32, d: u32) -> u32
+fn rare_kind(k: u32, d: u32) -> Option<u32>
     requires { kind.UnquoteSpliceSyntax < k }
     ensures { SimpleSaid k d result }
 {
@@ -96,28 +93,28 @@ fn rare_kind(k: u32, d: u32) -> u32
     }
     if k == kinds::BOOLEAN_LITERAL {
         if d <= kinds::TRUE {
-            return nodes::NODE_BOOLEAN;
+            return Some(nodes::NODE_BOOLEAN);
         }
-        return NO_SIMPLE;
+        return None;
     }
     if kinds::CHARACTER_LITERAL < k {
-        return NO_SIMPLE;
+        return None;
     }
     if k == kinds::CHARACTER_LITERAL {
         if is_scalar(d) {
-            return nodes::NODE_CHARACTER;
+            return Some(nodes::NODE_CHARACTER);
         }
-        return NO_SIMPLE;
+        return None;
     }
     plain_kind(nodes::NODE_SYMBOL, d)
 }
 
-// The node's kind of a simple datum; NO_SIMPLE of any other record. What ends most runs of simple data is tried first.
-fn simple_kind(k: u32, d: u32) -> u32
+// The node's kind of a simple datum; none of any other record. What ends most runs of simple data is tried first.
+fn simple_kind(k: u32, d: u32) -> Option<u32>
     ensures { SimpleSaid k d result }
 {
     if k <= kinds::UNQUOTE_SPLICE_SYNTAX {
-        return NO_SIMPLE;
+        return None;
     }
     if k == kinds::NUMBER {
         return plain_kind(nodes::NODE_NUMBER, d);
@@ -142,7 +139,7 @@ fn is_simple(k: u32, d: u32) -> bool
             return d == kinds::NO_DETAIL;
         }
     }
-    rare_kind(k, d) != NO_SIMPLE
+    rare_kind(k, d).is_some()
 }
 
 // What a kind and a detail are to the reader, by the table.
@@ -204,8 +201,7 @@ fn class_of(k: u32, d: u32) -> Class
     if k == kinds::CLOSE_PAREN {
         return close_class(d);
     }
-    let m = simple_kind(k, d);
-    if m != NO_SIMPLE {
+    if let Some(m) = simple_kind(k, d) {
         return Class::Simple(m);
     }
     if k == kinds::COMMENT {
@@ -214,22 +210,31 @@ fn class_of(k: u32, d: u32) -> Class
     table_class(k, d)
 }
 
+// The kind and the detail of the record at a place.
+fn words_at(records: &[u32], at: usize) -> (u32, u32)
+    requires { at < count_of records.now }
+    ensures { (result.0 ≡ kind_at records.now at) × (result.1 ≡ detail_at records.now at) }
+{
+    let p = at * RECORD_WORDS;
+    (records[p], records[p + 1])
+}
+
 // What the record at a place is to the reader.
 pub fn class_at(records: &[u32], at: usize) -> Class
     requires { at < count_of records.now }
     ensures { result ≡ class_at records.now at }
 {
-    let p = at * RECORD_WORDS;
-    class_of(records[p], records[p + 1])
+    let (k, d) = words_at(records, at);
+    class_of(k, d)
 }
 
-// The node's kind of the simple datum at a place; NO_SIMPLE of any other record.
-pub fn simple_at(records: &[u32], at: usize) -> u32
+// The node's kind of the simple datum at a place; none of any other record.
+pub fn simple_at(records: &[u32], at: usize) -> Option<u32>
     requires { at < count_of records.now }
     ensures { SimpleAt records.now at result }
 {
-    let p = at * RECORD_WORDS;
-    simple_kind(records[p], records[p + 1])
+    let (k, d) = words_at(records, at);
+    simple_kind(k, d)
 }
 
 // Whether the record at a place is a simple datum.
@@ -237,8 +242,8 @@ pub fn is_simple_at(records: &[u32], at: usize) -> bool
     requires { at < count_of records.now }
     ensures { IsSimple (class_at records.now at) result }
 {
-    let p = at * RECORD_WORDS;
-    is_simple(records[p], records[p + 1])
+    let (k, d) = words_at(records, at);
+    is_simple(k, d)
 }
 
 // Whether the record at a place closes the bracket s.
@@ -247,9 +252,9 @@ pub fn closes_at(records: &[u32], count: usize, at: usize, s: u64) -> bool
     ensures { ClosesSaid records.now at s result }
 {
     if at < count {
-        let p = at * RECORD_WORDS;
-        if records[p] == kinds::CLOSE_PAREN {
-            return records[p + 1] as u64 == closer_of(s);
+        let (k, d) = words_at(records, at);
+        if k == kinds::CLOSE_PAREN {
+            return d as u64 == closer_of(s);
         }
     }
     false

@@ -32,13 +32,9 @@ pub fn pointed_at(f: Frame) -> Frame
     ensures { result ≡ pointed f }
 {
     match f {
-        Frame::Plan => Frame::Plan,
-        Frame::Quoting => Frame::Quoting,
-        Frame::Dropping => Frame::Dropping,
         Frame::Fresh(s) => Frame::Dotted(s),
         Frame::Holds(s) => Frame::Dotted(s),
-        Frame::Dotted(s) => Frame::Dotted(s),
-        Frame::Tailed(s) => Frame::Tailed(s),
+        _ => f,
     }
 }
 
@@ -117,21 +113,6 @@ pub fn node_kind(f: Frame) -> u32
     nodes::NO_KIND
 }
 
-// The same frame, made of its parts: where it is handed on as it is, the compiler copies the bytes between them too, at every record.
-pub fn same(f: Frame) -> Frame
-    ensures { result ≡ f }
-{
-    match f {
-        Frame::Plan => Frame::Plan,
-        Frame::Quoting => Frame::Quoting,
-        Frame::Dropping => Frame::Dropping,
-        Frame::Fresh(s) => Frame::Fresh(s),
-        Frame::Holds(s) => Frame::Holds(s),
-        Frame::Dotted(s) => Frame::Dotted(s),
-        Frame::Tailed(s) => Frame::Tailed(s),
-    }
-}
-
 // The frame of a bracket that holds so many data.
 pub fn begun(s: u64, n: usize) -> Frame
     ensures { result ≡ begun_of s n }
@@ -146,5 +127,5 @@ pub fn begun(s: u64, n: usize) -> Frame
 pub fn skipped(f: Frame, w: usize, d: Read) -> Turn
     ensures { result ≡ skipped_of f w d }
 {
-    Turn::On(d.next, w, same(f))
+    Turn::On(d.next, w, f)
 }

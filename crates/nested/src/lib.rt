@@ -14,8 +14,8 @@ ghost use Rattle.nested.specs.Errors.{error_number};
 ghost use Rattle.nested.specs.Lent.{told_of, outcome, nested_of};
 ghost use Rattle.nested.specs.Said.{Put, Above, Took, Simples, Run, TurnSaid, Begins, SequenceSaid, PlanSaid};
 
-use classes::{NO_SIMPLE, class_at, closes_at, is_simple_at, simple_at};
-use frames::{begun, held, node_kind, pointed_at, same, shape_kind, skipped};
+use classes::{class_at, closes_at, is_simple_at, simple_at};
+use frames::{begun, held, node_kind, pointed_at, shape_kind, skipped};
 use items::RECORD_WORDS;
 use nodes::NODE_WORDS;
 use refusals::{ending_at, wrong_at};
@@ -173,10 +173,9 @@ fn put_simples(records: &[u32], count: usize, from: usize, nodes: &mut [u32], w:
     let mut at = from;
     let mut v = w;
     while at < limit {
-        let kind = simple_at(records, at);
-        if kind == NO_SIMPLE {
+        let Some(kind) = simple_at(records, at) else {
             return at;
-        }
+        };
         lay(nodes, v, kind, at, 0);
         at += 1;
         v += 1;
@@ -224,7 +223,7 @@ fn datum(
             kind: NestErrorKind::ErrorItem,
             at,
         }),
-        Class::Passes => Ok(Turn::On(at + 1, w, same(f))),
+        Class::Passes => Ok(Turn::On(at + 1, w, f)),
         Class::Drops => {
             let mut none = [0u32; 1];
             let r = sequence(records, count, at + 1, inner, Frame::Dropping, &mut none, 1)?;

@@ -12,12 +12,12 @@
 use crate::files::{FILE_ROOM, MOST_LINES, field, first, line, load, past_line};
 use crate::show::{end_line, number, print, record, runs};
 use crate::standing;
-use chars::Begun;
 use items::modes::PLAIN;
 use pieces::{Answer, Got, LONGEST, Marks, OpenError, Part, Stage, State};
 use pieces_calls::calls::{end, piece};
 use pieces_calls::opening::open;
 use pieces_cuttings::{MARK_BYTE, part};
+use pieces_giving::marks::no_part;
 use refusal::{LIMIT, NO_MODE, TOO_FEW};
 use std::io;
 use std::rt::Files;
@@ -116,12 +116,7 @@ fn no_mode(rt: &impl Print) -> io::Result<()> {
 fn full_part() -> Part {
     Part {
         count: 1,
-        state: Begun {
-            need: 0,
-            low: 0,
-            high: 0,
-            code: 0,
-        },
+        ..no_part()
     }
 }
 

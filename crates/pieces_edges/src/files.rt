@@ -7,8 +7,8 @@ ghost use Rattle.pieces_cuttings.specs.Parts.{part_of};
 ghost use Rattle.pieces_edges.specs.Fields.{still_of, past_tabs, field_of, real_of, put_at, past_put};
 
 use byte_runs::find;
+use inputs::read_full;
 use pieces_cuttings::{copy, part};
-use std::io::Read;
 use std::rt::Files;
 use std::{fs, io};
 
@@ -20,21 +20,6 @@ pub const FILE_ROOM: usize = 2048;
 
 // More lines than a file has.
 pub const MOST_LINES: u32 = 1000;
-
-// Reads until a memory is full or the file ends; how many bytes were read to its front.
-fn read_full(from: &mut impl Read, file: &mut [u8]) -> io::Result<usize>
-    ensures { ReadsAtMost result file.new }
-{
-    let mut done = 0;
-    while done < file.len() {
-        let n = from.read(&mut file[done..])?;
-        if n == 0 {
-            break;
-        }
-        done += n;
-    }
-    Ok(done)
-}
 
 // Reads a file to the front of a memory; how many bytes it has.
 pub fn load(rt: &impl Files, name: &str, file: &mut [u8]) -> io::Result<usize>

@@ -1,5 +1,5 @@
 // What is printed: numbers, bytes in runs, items and how a reading ended.
-ghost use Rattle.std.specs.Prelude.{◌≡◌, ◌≤◌, length};
+ghost use Rattle.std.specs.Prelude.{◌≡◌};
 
 use items::Record;
 use items::modes::PLAIN;
@@ -24,10 +24,8 @@ pub fn end_line(rt: &impl Print) -> io::Result<()> {
 }
 
 // Whether the byte at a place is the last one, or another follows.
-fn ends_run(bytes: &[u8], at: usize) -> bool
-    requires { at ≤ length bytes.now }
-{
-    bytes.len() - at <= 1 || bytes[at] != bytes[at + 1]
+fn ends_run(bytes: &[u8], at: usize) -> bool {
+    bytes.len().saturating_sub(at) <= 1 || bytes[at] != bytes[at + 1]
 }
 
 // So many times a byte.

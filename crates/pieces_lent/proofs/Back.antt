@@ -25,10 +25,6 @@ use Rattle.pieces_lent.specs.Coding.{narrow, is_row, is_same_row, is_code, stage
 
 -- ---- numbers
 
--- tests that all held, before the last
-pub last_test : {a b : Bool} → a ≡ true → b ≡ (a && b)
-last_test e = rw e
-
 module _ (w : Words) where
   pub narrowed : narrow w ≡ true → Narrowed w
   unfolding narrow

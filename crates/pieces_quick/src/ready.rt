@@ -1,6 +1,7 @@
 // Whether the words of a state are ones that moves know.
-ghost use Rattle.std.specs.Prelude.{◌≡◌, true, ℕ, ◌+◌, ◌^◌, ◌≤◌, ◌<◌};
+ghost use Rattle.std.specs.Prelude.{◌≡◌, true, ℕ, ◌+◌, ◌-◌, ◌^◌, ◌≤◌, ◌<◌};
 ghost use Rattle.items.specs.Whole.{limit};
+ghost use Rattle.pieces.specs.Expected.{longest};
 ghost use Rattle.pieces_quick.specs.Words.{Known, Plain, Quiet, Unheld, Stands, Ready};
 
 use pieces::LONGEST;
@@ -45,24 +46,9 @@ fn is_phase(stage: u64, which: u64, detail: u64, len: u64) -> bool
     if stage == DONE_TOKEN {
         return is_token(which, detail);
     }
-    if detail != 0 {
-        return false;
-    }
-    if which == 0 {
-        if is_plain(stage) {
-            return true;
-        }
-    }
-    if LINES < which {
-        return false;
-    }
-    if stage == QUOTED {
-        return true;
-    }
-    if stage != CLOSED {
-        return false;
-    }
-    QUOTES_LENGTH <= len
+    detail == 0
+        && (which == 0 && is_plain(stage)
+            || which <= LINES && (stage == QUOTED || stage == CLOSED && QUOTES_LENGTH <= len))
 }
 
 // Whether the end was not declared, no character was begun, and the words that no stage known here uses are 0.
@@ -102,48 +88,42 @@ pub fn is_unheld(w: Words) -> bool
     w.start == 0 && w.which == 0 && w.detail == 0 && w.len == 0 && w.depth <= w.at
 }
 
+// Whether bytes are held, no more than an item has, that lead from its start to the place, and as many brackets fit before it.
+fn is_placed(w: Words) -> bool
+    ensures { result ≡ true → (0 < w.len) × (w.len ≤ longest) × (w.len ≤ w.at) × (w.start ≡ w.at - w.len) × (w.depth ≤ w.start) }
+{
+    0 < w.len
+        && w.len <= LONGEST_VALUE
+        && w.len <= w.at
+        && w.start == w.at - w.len
+        && w.depth <= w.start
+}
+
 // Whether a state in an item is known here: its bytes lead from its start to the place, and as many brackets fit before it.
 pub fn is_item(w: Words) -> bool
     ensures { result ≡ true → Stands w }
 {
-    if w.len == 0 {
-        return false;
+    is_placed(w) && is_phase(w.stage, w.which, w.detail, w.len)
+}
+
+// Whether a state is known here by its item: none between items, else one that `is_item` knows.
+fn is_standing(w: Words) -> bool
+    ensures { result ≡ true → Stands w }
+{
+    if w.stage == IDLE {
+        return is_unheld(w);
     }
-    if LONGEST_VALUE < w.len {
-        return false;
-    }
-    if w.at < w.len {
-        return false;
-    }
-    if w.start != w.at - w.len {
-        return false;
-    }
-    if w.start < w.depth {
-        return false;
-    }
-    is_phase(w.stage, w.which, w.detail, w.len)
+    is_item(w)
 }
 
 // Whether the words are those of a state known here, between two characters, with so many bytes of the text still to come.
 pub fn is_ready(w: Words, left: usize) -> bool
     ensures { result ≡ true → Ready w left }
 {
-    if !is_quiet(
+    is_quiet(
         w.ended, w.one, w.two, w.count, w.need, w.low, w.high, w.code,
-    ) {
-        return false;
-    }
-    if 1 < w.mode {
-        return false;
-    }
-    if 1 < w.skip {
-        return false;
-    }
-    if !is_within(w.from, w.to, w.at, left) {
-        return false;
-    }
-    if w.stage == IDLE {
-        return is_unheld(w);
-    }
-    is_item(w)
+    ) && w.mode <= 1
+        && w.skip <= 1
+        && is_within(w.from, w.to, w.at, left)
+        && is_standing(w)
 }

@@ -10,10 +10,7 @@ use byte_runs::{BLOCK, HALF, QUARTER, all_plain, has_block, plain_bytes};
 pub(crate) fn line_block(t: &[u8], at: usize) -> bool
     ensures { result ≡ leb block (span of_line (drop at t.now)) }
 {
-    if !has_block(t, at) {
-        return false;
-    }
-    all_plain(t, at, BLOCK, b'\n', b'\n')
+    has_block(t, at) && all_plain(t, at, BLOCK, b'\n', b'\n')
 }
 
 // Past n bytes at a place, if all are of a line, else the place.

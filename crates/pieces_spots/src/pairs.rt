@@ -28,16 +28,11 @@ fn is_letter(x: u8, y: u8) -> bool
 }
 
 // Whether an item at a stage goes on with any such letter: a word, a comment to the end of its line, and quotes do.
+#[tactic(auto, using(crate::proofs::TwoBytes::word_carries, crate::proofs::TwoBytes::line_carries, crate::proofs::TwoBytes::quotes_carry))]
 fn carries(stage: u64) -> bool
     ensures { result ≡ true → (which : ℕ) → Carries stage which }
 {
-    if stage == IN_WORD {
-        return true;
-    }
-    if stage == IN_LINE {
-        return true;
-    }
-    stage == QUOTED
+    stage == IN_WORD || stage == IN_LINE || stage == QUOTED
 }
 
 // Whether an item at a stage goes on in its quotes past a backslash and this byte.
@@ -67,16 +62,10 @@ fn has_escape(s: PieceSpot, piece: &[u8]) -> bool
     ensures { result ≡ true → Paired s piece.now }
 {
     let i = s.i;
-    if piece[i] != b'\\' {
-        return false;
-    }
-    if piece.len() - i < TWO_BYTES {
-        return false;
-    }
-    if LONGEST - TWO_BYTES < s.len {
-        return false;
-    }
-    is_escape(s.stage, piece[i + 1])
+    piece[i] == b'\\'
+        && TWO_BYTES <= piece.len() - i
+        && s.len <= LONGEST - TWO_BYTES
+        && is_escape(s.stage, piece[i + 1])
 }
 
 // Whether a letter of two bytes stands at a spot, and its item goes on with it.
@@ -85,16 +74,10 @@ fn has_letter(s: PieceSpot, piece: &[u8]) -> bool
     ensures { result ≡ true → Paired s piece.now }
 {
     let i = s.i;
-    if piece.len() - i < TWO_BYTES {
-        return false;
-    }
-    if !is_letter(piece[i], piece[i + 1]) {
-        return false;
-    }
-    if LONGEST - TWO_BYTES < s.len {
-        return false;
-    }
-    carries(s.stage)
+    TWO_BYTES <= piece.len() - i
+        && is_letter(piece[i], piece[i + 1])
+        && s.len <= LONGEST - TWO_BYTES
+        && carries(s.stage)
 }
 
 // Whether two bytes stand at a spot that leave its item in its phase.

@@ -3,12 +3,11 @@
 #![tactic(auto)]
 
 ghost use Rattle.std.specs.Prelude.{◌≤◌, ◌<◌, IfOk};
-ghost use Rattle.std.specs.Io.{ReadsAtMost};
 
 use findings::codes::FINDING_WORDS;
 use findings_render::FULL;
+use inputs::read_full;
 use std::env::FillError;
-use std::io::Read;
 use std::rt::{Env, Files};
 use std::{fs, io};
 
@@ -108,28 +107,13 @@ fn check(rt: &impl Print, source: &[u8], name: &[u8]) -> io::Result<u32>
     }
 }
 
-// Reads a file to the front of a memory, as far as there is room; how many bytes were read.
-fn load(file: &mut impl Read, memory: &mut [u8]) -> io::Result<usize>
-    ensures { ReadsAtMost result memory.new }
-{
-    let mut done = 0;
-    while done < memory.len() {
-        let n = file.read(&mut memory[done..])?;
-        if n == 0 {
-            break;
-        }
-        done += n;
-    }
-    Ok(done)
-}
-
 fn check_file(rt: &(impl Files + Print + Eprint), name: &str) -> io::Result<u32>
     ensures { IfOk result (λ status. status < 3) }
 {
     match fs::open(rt, name) {
         Ok(mut file) => {
             let mut memory = [0u8; PLAN_ROOM];
-            let count = load(&mut file, &mut memory)?;
+            let count = read_full(&mut file, &mut memory)?;
             check(rt, front(&memory, count), name.as_bytes())
         }
         Err(e) => {

@@ -1,7 +1,6 @@
 // The frames of the list: compare/replay/src/frame.rs says what the bytes of a head are.
 
-ghost use Rattle.std.specs.Io.{ReadsAtMost};
-
+use inputs::read_full;
 use std::io;
 use std::io::Read;
 
@@ -70,21 +69,6 @@ pub(crate) fn head(b: &[u8; HEAD]) -> FrameHead {
         first: u32::from_le_bytes([b[14], b[15], b[16], b[17]]),
         second: u32::from_le_bytes([b[18], b[19], b[20], b[21]]),
     }
-}
-
-// Reads until a slice is full or the input ends; how many bytes were read to its front.
-pub(crate) fn read_full(file: &mut impl Read, to: &mut [u8]) -> io::Result<usize>
-    ensures { ReadsAtMost result to.new }
-{
-    let mut done = 0;
-    while done < to.len() {
-        let n = file.read(&mut to[done..])?;
-        if n == 0 {
-            break;
-        }
-        done += n;
-    }
-    Ok(done)
 }
 
 // Reads so many bytes to the front of a slice; whether they were there and fit.

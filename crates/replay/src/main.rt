@@ -4,7 +4,8 @@
 // compare/replay/src/frame.rs says how they are written.
 #![tactic(auto)]
 
-use frame::{FrameHead, HEAD, read_full};
+use frame::{FrameHead, HEAD};
+use inputs::read_full;
 use judge::Verdict;
 use std::io::Read;
 use std::rt::Files;

@@ -1,21 +1,15 @@
 -- What was laid so far is the start of the text, and the rest of it is still to be written.
 use native.Mathlib.Omega.{arith}
 use mathlib.Core.Bool.{true}
-use Rattle.items_writing.proofs.RecordLoops.{put_start, put_length, put_end, put_room, put_part, put_on, turn_right}
+use Rattle.items_writing.proofs.RecordLoops.{put_start, put_length, put_end, put_room, put_part, put_on}
 use Rattle.items_writing.proofs.put.Goals as goal
 
 pub loop-p-init : goal.loop-p-init
 loop-p-init c =
     put_start c.args.records.now c.args.source.now c.args.text.now c.args.out.now true 0 (omega arith)
 
-pub turn_at-turn-requires : goal.turn_at-turn-requires
-turn_at-turn-requires c = (omega arith, c.requires.all_right)
-
-pub words_at-w-requires : goal.words_at-w-requires
-words_at-w-requires c = c.turn_at-turn.ensures.inside
-
-pub body_of-requires : goal.body_of-requires
-body_of-requires c = turn_right c.turn_at-turn.ensures c.words_at-w.ensures
+pub taken-requires : goal.taken-requires
+taken-requires c = (omega arith, c.requires.all_right)
 
 pub slice_bounds-put_piece-count : goal.slice_bounds-put_piece-count
 slice_bounds-put_piece-count c =
@@ -23,7 +17,7 @@ slice_bounds-put_piece-count c =
     omega (
       arith,
       put_room c.args.records.now c.args.source.now c.args.text.now turn.invariant c.requires.true_in_bounds
-          c.turn_at-turn.ensures c.words_at-w.ensures c.body_of.ensures,
+          c.taken.ensures,
     )
 
 pub slice_bounds-put_piece-start : goal.slice_bounds-put_piece-start
@@ -32,7 +26,7 @@ slice_bounds-put_piece-start c =
     omega (
       arith,
       put_room c.args.records.now c.args.source.now c.args.text.now turn.invariant c.requires.true_in_bounds
-          c.turn_at-turn.ensures c.words_at-w.ensures c.body_of.ensures,
+          c.taken.ensures,
     )
 
 pub slice_bounds-put_piece-end : goal.slice_bounds-put_piece-end
@@ -41,14 +35,13 @@ slice_bounds-put_piece-end c =
     omega (
       arith,
       put_room c.args.records.now c.args.source.now c.args.text.now turn.invariant c.requires.true_in_bounds
-          c.turn_at-turn.ensures c.words_at-w.ensures c.body_of.ensures,
+          c.taken.ensures,
     )
 
 pub put_piece-n-requires : goal.put_piece-n-requires
 put_piece-n-requires c =
     let turn = c.loop-p in
-    put_part c.args.records.now c.args.source.now c.args.text.now turn.invariant c.requires.true_in_bounds c.turn_at-turn.ensures
-    c.words_at-w.ensures c.body_of.ensures
+    put_part c.args.records.now c.args.source.now c.args.text.now turn.invariant c.requires.true_in_bounds c.taken.ensures
 
 pub overflow_add-n : goal.overflow_add-n
 overflow_add-n c =
@@ -57,24 +50,22 @@ overflow_add-n c =
       arith,
       c.put_piece-n.ensures.0,
       put_room c.args.records.now c.args.source.now c.args.text.now turn.invariant
-          c.requires.true_in_bounds c.turn_at-turn.ensures c.words_at-w.ensures
-          c.body_of.ensures,
+          c.requires.true_in_bounds c.taken.ensures,
       put_length c.args.records.now c.args.source.now c.args.text.now turn.invariant
           c.requires.true_in_bounds,
     )
 
 pub overflow_add-p : goal.overflow_add-p
-overflow_add-p c = omega (arith, c.turn_at-turn.ensures.inside)
+overflow_add-p c = omega (arith, c.taken.ensures.turn.inside)
 
 pub loop-p-smaller : goal.loop-p-smaller
-loop-p-smaller c = omega (arith, c.turn_at-turn.ensures.from, c.turn_at-turn.ensures.inside)
+loop-p-smaller c = omega (arith, c.taken.ensures.turn.from, c.taken.ensures.turn.inside)
 
 pub loop-p-preserved : goal.loop-p-preserved
 loop-p-preserved c =
     let turn = c.loop-p in
     put_on c.args.records.now c.args.source.now c.args.text.now turn.invariant c.requires.true_in_bounds
-    c.turn_at-turn.ensures c.words_at-w.ensures
-    c.body_of.ensures c.put_piece-n.ensures.1 c.put_piece-n.ensures.0
+    c.taken.ensures c.put_piece-n.ensures.1 c.put_piece-n.ensures.0
 
 pub shape_of-out : goal.shape_of-out
 shape_of-out c =

@@ -34,9 +34,8 @@ datum-returns-in-Fails t c =
 
 pub datum-returns-in-Passes : goal.datum-returns-in-Passes
 datum-returns-in-Passes t c =
-    rw c.same.ensures
-    (pass_said c.args.records.now c.args.at c.args.depth c.args.w c.args.nodes.now (omega arith) (omega arith)
-    c.args.f (sym c.in-Passes.is ∙ c.class_at-k.ensures))
+    pass_said c.args.records.now c.args.at c.args.depth c.args.w c.args.nodes.now (omega arith) (omega arith)
+    c.args.f (sym c.in-Passes.is ∙ c.class_at-k.ensures)
 
 pub datum-sequence-requires : goal.datum-sequence-requires
 datum-sequence-requires t c =

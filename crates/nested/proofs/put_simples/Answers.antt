@@ -12,14 +12,14 @@ loop-at-init c = (
   run_none c.args.records.now c.args.from c.args.w c.args.nodes.now (omega (arith, c.requires.0, c.requires.1)),
 )
 
-pub simple_at-kind-requires : goal.simple_at-kind-requires
-simple_at-kind-requires c = omega (arith, c.min-limit.ensures, c.requires.0)
+pub simple_at-requires : goal.simple_at-requires
+simple_at-requires c = omega (arith, c.min-limit.ensures, c.requires.0)
 
-pub shape_of-nodes-then-kind-eq-NO_SIMPLE : goal.shape_of-nodes-then-kind-eq-NO_SIMPLE
-shape_of-nodes-then-kind-eq-NO_SIMPLE c = c.loop-at.invariant.0
+pub shape_of-nodes-in_default : goal.shape_of-nodes-in_default
+shape_of-nodes-in_default c = c.loop-at.invariant.0
 
-pub returns-then-kind-eq-NO_SIMPLE : goal.returns-then-kind-eq-NO_SIMPLE
-returns-then-kind-eq-NO_SIMPLE c = c.loop-at.invariant.2
+pub returns-in_default : goal.returns-in_default
+returns-in_default c = c.loop-at.invariant.2
 
 pub lay-requires : goal.lay-requires
 lay-requires c =
@@ -33,9 +33,9 @@ pub loop-at-preserved : goal.loop-at-preserved
 loop-at-preserved c = (
   c.lay.auto.nodes ∙ c.loop-at.invariant.0,
   omega (arith, c.loop-at.invariant.1),
-  run_more c.args.records.now c.args.from c.loop-at.at c.simple_at-kind.result
-      (omega (arith, c.loop-at-test.true, c.min-limit.ensures, c.requires.0)) (c.simple_at-kind.ensures
-      c.if-kind-eq-NO_SIMPLE.false) c.args.w c.loop-at.v c.args.nodes.now c.loop-at.nodes c.lay.new.nodes
+  run_more c.args.records.now c.args.from c.loop-at.at c.in-Some.kind
+      (omega (arith, c.loop-at-test.true, c.min-limit.ensures, c.requires.0)) (c.simple_at.ensures
+      c.in-Some.kind c.in-Some.is) c.args.w c.loop-at.v c.args.nodes.now c.loop-at.nodes c.lay.new.nodes
       c.loop-at.invariant.0 c.loop-at.invariant.2 (omega (arith, c.loop-at.invariant.1, c.loop-at.invariant.2.simples.count)) c.lay.ensures,
 )
 

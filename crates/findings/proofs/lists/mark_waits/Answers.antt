@@ -5,4 +5,4 @@ use Rattle.findings.proofs.lists.mark_waits.Goals as goal
 
 pub returns : goal.returns
 unfolding mark_waits
-returns c = c.at_row.ensures ∙ rw (c.last_waiting.ensures, c.depth_at-depth.ensures)
+returns c = c.at_row.ensures ∙ rw (c.last_passing.ensures, c.depth_at.ensures)

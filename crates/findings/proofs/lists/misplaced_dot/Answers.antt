@@ -13,4 +13,4 @@ unfolding misplaced_dot is_dot
 returns c =
     let row_at = c.row_at-row in
     let if1 = c.if-row-eq-DOT in
-    c.at_row-2.ensures ∙ rw (← row_at.ensures) (rw (ne_eqb _ _ if1.false, c.last_of-dot.ensures, c.depth_at-depth.ensures))
+    c.at_row-2.ensures ∙ rw (← row_at.ensures) (rw (ne_eqb _ _ if1.false, c.last_passing-dot.ensures, c.depth_at.ensures))

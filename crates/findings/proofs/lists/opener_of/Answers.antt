@@ -9,5 +9,5 @@ use Rattle.findings.proofs.lists.opener_of.Goals as goal
 pub returns : goal.returns
 unfolding is_open
 returns c =
-    c.last_of.ensures
+    c.last_passing.ensures
     ∙ ap (λ (d : ℕ). last_before (λ (i : ℕ). is_kind c.args.rows.now kind.OpenParen d i) c.args.p) c.saturating_sub.ensures

@@ -3,12 +3,11 @@ use mathlib.Core.Path.{refl, sym, ap, ◌∙◌}
 use Prim.Native.Nat.{ℕ}
 use native.Mathlib.Omega.{arith}
 use native.Mathlib.Nat.{add-zero}
-use borrow.Author.Tests.{eq-eqb, ne_eqb}
 use Rattle.chars.specs.Utf8.{sequences}
 use Rattle.chars.proofs.Sequences.{further}
 use Rattle.chars.proofs.Chars.{char_at}
 use Rattle.findings.specs.Slips.{first_odd}
-use Rattle.findings.proofs.OddNames.{odd_turn, plain_turn, odd_end}
+use Rattle.findings.proofs.OddNames.{code_some, code_none, odd_turn, plain_turn, odd_end}
 use Rattle.findings.proofs.slips.first_odd.Goals as goal
 
 pub loop-i-init : goal.loop-i-init
@@ -21,20 +20,21 @@ loop-i-preserved-then-is_plain c = (
       ∙ c.loop-i.invariant.1,
 )
 
-pub overflow_add-a-then-odd-ne0 : goal.overflow_add-a-then-odd-ne0
-overflow_add-a-then-odd-ne0 c =
+pub overflow_add-a-in-Some : goal.overflow_add-a-in-Some
+overflow_add-a-in-Some c =
     let p = char_at c.args.part.now c.loop-i.i c.in-Char.code c.in-Char.next (sym c.in-Char.is ∙ c.decode_at.ensures) c.loop-i.invariant.0 in
     omega (arith, p.inside)
 
-pub overflow_cast-a-then-odd-ne0 : goal.overflow_cast-a-then-odd-ne0
-overflow_cast-a-then-odd-ne0 c =
+pub overflow_cast-a-in-Some : goal.overflow_cast-a-in-Some
+overflow_cast-a-in-Some c =
     let p = char_at c.args.part.now c.loop-i.i c.in-Char.code c.in-Char.next (sym c.in-Char.is ∙ c.decode_at.ensures) c.loop-i.invariant.0 in
     omega (arith, p.inside)
 
-pub returns-then-odd-ne0 : goal.returns-then-odd-ne0
-returns-then-odd-ne0 c =
+pub returns-in-Some : goal.returns-in-Some
+returns-in-Some c =
     let turn = odd_turn c.args.part.now c.args.a c.loop-i.i (sym c.in-Char.is ∙ c.decode_at.ensures) in
-    c.warn.ensures ∙ sym (turn ∙ rw (← c.odd_code-odd.ensures) (rw (ne_eqb _ _ c.if-odd-ne0.true))) ∙ c.loop-i.invariant.1
+    let odd = code_some _ (sym c.in-Some.is ∙ c.odd_code.ensures) in
+    c.warn.ensures ∙ sym (turn ∙ rw (odd.0, ← odd.1)) ∙ c.loop-i.invariant.1
 
 pub loop-i-smaller : goal.loop-i-smaller
 loop-i-smaller c =
@@ -45,7 +45,7 @@ loop-i-preserved c =
     let o = sym c.in-Char.is ∙ c.decode_at.ensures in
     let turn = odd_turn c.args.part.now c.args.a c.loop-i.i o in (
       (char_at c.args.part.now c.loop-i.i c.in-Char.code c.in-Char.next o c.loop-i.invariant.0).inside,
-      sym (turn ∙ rw (← c.odd_code-odd.ensures) (rw (eq-eqb _ _ c.if-odd-ne0.false))) ∙ c.loop-i.invariant.1,
+      sym (turn ∙ rw (code_none _ c.odd_code.ensures c.in_default.not-Some)) ∙ c.loop-i.invariant.1,
     )
 
 pub returns-in-Bad : goal.returns-in-Bad

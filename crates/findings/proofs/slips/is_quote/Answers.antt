@@ -1,17 +1,23 @@
--- The tests are the definition's, in its order.
-use mathlib.Core.Path.{sym, ◌∙◌}
-use borrow.Author.Tests.{eq-eqb, ne_eqb}
+-- The ranges and characters are the definition's.
+use Rattle.std.proofs.Common.{arith}
+use Rattle.std.proofs.lemmas.Grind.{common_steps}
+use Rattle.std.proofs.lemmas.Bool.Decides.{nat_tests}
+use Rattle.laws.specs.Quoted.{within}
 use Rattle.findings.specs.Slips.{is_quote}
 use Rattle.findings.proofs.slips.is_quote.Goals as goal
 
-pub returns-then-is_within : goal.returns-then-is_within
-unfolding is_quote
-returns-then-is_within c = rw (sym c.is_within.ensures ∙ c.if-is_within.true)
+pub returns-in-8216-to-8223 : goal.returns-in-8216-to-8223
+unfolding is_quote within
+returns-in-8216-to-8223 c = grind (arith, nat_tests, common_steps)
 
-pub returns-then-c-eq171 : goal.returns-then-c-eq171
-unfolding is_quote
-returns-then-c-eq171 c = rw (sym c.is_within.ensures ∙ c.if-is_within.false, eq-eqb _ _ c.if-c-eq171.true)
+pub returns-in-8216-to-8223-2 : goal.returns-in-8216-to-8223-2
+unfolding is_quote within
+returns-in-8216-to-8223-2 c = grind (arith, nat_tests, common_steps)
 
-pub returns : goal.returns
-unfolding is_quote
-returns c = rw (sym c.is_within.ensures ∙ c.if-is_within.false, ne_eqb _ _ c.if-c-eq171.false)
+pub returns-in_default : goal.returns-in_default
+unfolding is_quote within
+returns-in_default c = grind (arith, nat_tests, common_steps)
+
+pub returns-in_default-2 : goal.returns-in_default-2
+unfolding is_quote within
+returns-in_default-2 c = grind (arith, nat_tests, common_steps)

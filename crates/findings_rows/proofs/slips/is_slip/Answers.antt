@@ -8,6 +8,7 @@ pub returns-then-is_escape_error : goal.returns-then-is_escape_error
 unfolding slips
 returns-then-is_escape_error c = ap not c.character_at.ensures ∙ sym (rw (sym c.is_escape_error.ensures ∙ c.if-is_escape_error.true))
 
-pub returns : goal.returns
+pub returns-else-is_escape_error : goal.returns-else-is_escape_error
 unfolding slips
-returns c = sym (rw (sym c.is_escape_error.ensures ∙ c.if-is_escape_error.false))
+returns-else-is_escape_error c =
+    c.if-is_escape_error.false ∙ sym (rw (sym c.is_escape_error.ensures ∙ c.if-is_escape_error.false))

@@ -7,7 +7,7 @@ use Rattle.lexer_fields.proofs.whole.count.Goals as goal
 
 pub loop-place-init : goal.loop-place-init
 loop-place-init c =
-    ([], at_start c.args.source.now c.args.ends.now c.args.mode c.args.skip c.requires.fine)
+    ([], at_start c.args.parts.source.now c.args.parts.ends.now c.args.parts.mode c.args.parts.skip c.requires.fine)
 
 pub slice_bounds-count_part-count : goal.slice_bounds-count_part-count
 slice_bounds-count_part-count c = omega (arith, bounds c.loop-place.invariant.1 c.loop-place-test.true)
@@ -20,7 +20,7 @@ slice_bounds-count_part-end c = omega (arith, bounds c.loop-place.invariant.1 c.
 
 pub count_part-p-requires : goal.count_part-p-requires
 count_part-p-requires c =
-    (short c.loop-place.invariant.1 c.loop-place-test.true c.requires.fine, this_known c.loop-place.invariant.1 c.loop-place-test.true c.args.known c.requires.all_known)
+    (short c.loop-place.invariant.1 c.loop-place-test.true c.requires.fine, this_known c.loop-place.invariant.1 c.loop-place-test.true c.args.parts.known c.requires.all_known)
 
 pub overflow_add-n : goal.overflow_add-n
 overflow_add-n c =

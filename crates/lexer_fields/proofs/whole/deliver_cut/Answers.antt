@@ -15,8 +15,8 @@ pub deliver-requires : goal.deliver-requires
 deliver-requires c = record {
   fine = is_fine c.args.source.now c.args.ends.now c.args.mode c.args.skip c.args.rows.now c.args.recs.now c.args.text.now
       c.requires.0 c.requires.1 c.if-source-gt-LIMIT.false;
-  all_known = all_known c.args.mode c.args.skip c.args.source.now c.args.ends.now c.all_known-known.result c.requires.1
-      (c.all_known-known.ensures ∙ ap (well_cut (first_bad c.args.source.now)) c.requires.2);
+  all_known = all_known c.args.mode c.args.skip c.args.source.now c.args.ends.now c.all_known.result c.requires.1
+      (c.all_known.ensures ∙ ap (well_cut (first_bad c.args.source.now)) c.requires.2);
 }
 
 pub returns : goal.returns

@@ -52,7 +52,7 @@ pub write_part-p-requires : goal.write_part-p-requires
 write_part-p-requires c =
     let l = c.loop-i in
     let room = fit c.requires.fine c.requires.room c.loop-i.invariant c.loop-i-test.true in record {
-      part_len_bound = (short l.invariant.at c.loop-i-test.true c.requires.fine, this_known l.invariant.at c.loop-i-test.true c.args.known c.requires.all_known);
+      part_len_bound = (short l.invariant.at c.loop-i-test.true c.requires.fine, this_known l.invariant.at c.loop-i-test.true c.args.parts.known c.requires.all_known);
       part_in_bounds = omega (arith, room.1, length_part l.recs l.w);
       part_in_bounds_2 = omega (arith, room.2, length_part l.text l.free);
     }

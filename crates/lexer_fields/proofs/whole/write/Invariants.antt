@@ -3,4 +3,4 @@ use Rattle.lexer_fields.proofs.whole.write.Given as goal
 
 abbrev pub invariant-loop-i : goal.invariant-loop-i
 invariant-loop-i l =
-    Writing l.source l.ends l.mode l.skip l.initial.rows l.initial.recs l.initial.text l.rows l.recs l.text l.i l.from l.n l.w l.free
+    Writing l.parts.source.now l.parts.ends.now l.parts.mode l.parts.skip l.initial.rows l.initial.recs l.initial.text l.rows l.recs l.text l.i l.from l.n l.w l.free

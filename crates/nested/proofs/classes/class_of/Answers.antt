@@ -8,8 +8,8 @@ returns-then-k-eq-OPEN_PAREN c = rw c.if-k-eq-OPEN_PAREN.true c.open_class.ensur
 pub returns-then-k-eq-CLOSE_PAREN : goal.returns-then-k-eq-CLOSE_PAREN
 returns-then-k-eq-CLOSE_PAREN c = rw c.if-k-eq-CLOSE_PAREN.true c.close_class.ensures
 
-pub returns-then-m-ne-NO_SIMPLE : goal.returns-then-m-ne-NO_SIMPLE
-returns-then-m-ne-NO_SIMPLE c = sym (c.simple_kind-m.ensures c.if-m-ne-NO_SIMPLE.true)
+pub returns-in-Some : goal.returns-in-Some
+returns-in-Some c = sym (c.simple_kind.ensures c.in-Some.m c.in-Some.is)
 
 pub returns-then-k-eq-COMMENT : goal.returns-then-k-eq-COMMENT
 returns-then-k-eq-COMMENT c = rw c.if-k-eq-COMMENT.true c.comment_class.ensures

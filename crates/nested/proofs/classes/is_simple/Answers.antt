@@ -9,4 +9,4 @@ pub returns-then-k-le-STRING_LITERAL : goal.returns-then-k-le-STRING_LITERAL
 returns-then-k-le-STRING_LITERAL c = frequent_said _ _ c.if-k-gt-BOOLEAN_LITERAL.true c.if-k-le-STRING_LITERAL.true
 
 pub returns : goal.returns
-returns c = rare_said _ _ _ c.rare_kind.ensures
+returns c = rw c.is_some.ensures (rare_said _ _ _ c.rare_kind.ensures)
