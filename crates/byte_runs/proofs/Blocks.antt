@@ -1,12 +1,14 @@
--- What the test for a block's room says of the run there, and runs from the places that they pass.
+-- What the tests of a block say of the run there, and runs from the places that they pass.
 use Prim.Native.Nat.{ℕ, ◌+◌, ◌-◌, ◌≤◌, max}
 use native.Mathlib.Omega.{arith}
 use mathlib.Core.Path.{◌≡◌, refl, sym, ap, subst, ◌∙◌}
 use mathlib.Core.List.{List}
-use mathlib.Core.Bool.{Bool, true, false, not, ◌&&◌, ◌||◌}
-use lib.Dec.{leb}
+use mathlib.Core.Bool.{Bool, true, false, not, ◌&&◌}
+use lib.Bits.{bit_or, or_add_and, and_le_l, and_le_r}
+use lib.Dec.{eqb, leb}
+use mir.Val.{bool_byte}
 use lib.ListN.{length, drop}
-use borrow.Author.Tests.{leb-true, leb-false, le-leb}
+use borrow.Author.Tests.{eq-eqb, ne_eqb, eqb-true, eqb-false, leb-true, leb-false, le-leb}
 use Rattle.laws.specs.Texts.{span}
 use Rattle.laws.proofs.Choice.{by_bool, yes_no, no_yes}
 use Rattle.laws.proofs.Blocks.{block_short, block_on}
@@ -17,11 +19,25 @@ pub not-not : (x y : Bool) → not x ≡ y → x ≡ not y
 not-not true y e = ap not e
 not-not false y e = ap not e
 
--- a test more, by what fails it
-pub none_more : (x y p : Bool) → y ≡ not p → not (x || y) ≡ (not x && p)
-none_more true y p e = refl
-none_more false y true e = ap not e
-none_more false y false e = ap not e
+-- numbers are 0 together just if both are
+or_none : (x y : ℕ) → eqb (bit_or x y) 0 ≡ (eqb x 0 && eqb y 0)
+or_none x y =
+    by_bool (eqb x 0)
+    (λ e. by_bool (eqb y 0)
+    (λ f. rw (e, f) (eq-eqb (bit_or x y) 0 (omega (arith, eqb-true x 0 e, eqb-true y 0 f, or_add_and x y))))
+    (λ f. rw (e, f) (ne_eqb (bit_or x y) 0 (omega (arith, eqb-false y 0 f, or_add_and x y, and_le_l x y)))))
+    (λ e. rw e (ne_eqb (bit_or x y) 0 (omega (arith, eqb-false x 0 e, or_add_and x y, and_le_r x y))))
+
+-- a test as a number is 0 just if what it fails passes
+as_number : (y p : Bool) → y ≡ not p → eqb (bool_byte y) 0 ≡ p
+as_number true false e = refl
+as_number false true e = refl
+as_number true true e = yes_no e
+as_number false false e = no_yes e
+
+-- a test more, put to those before it as a number
+pub none_more : (x : ℕ) (y p : Bool) → y ≡ not p → eqb (bit_or x (bool_byte y)) 0 ≡ (eqb x 0 && p)
+none_more x y p e = or_none x (bool_byte y) ∙ ap (λ (q : Bool). eqb x 0 && q) (as_number y p e)
 
 -- what does not end a run passes
 pub passes_on : (p : Bool) {r : Bool} → r ≡ not p → r ≡ false → p ≡ true

@@ -29,17 +29,17 @@ pub fn has_block(t: &[u8], at: usize) -> bool
     has_room(t, at, BLOCK)
 }
 
-// Whether n bytes at a place are of a class.
+// Whether n bytes at a place are of a class. The tests are put together as numbers, which the compiler does for a whole block at once.
 #[inline(always)]
 fn all_of<C: ByteClass>(t: &[u8], at: usize, n: usize, class: C) -> bool
     requires { at + n ≤ length t.now }
     ensures { result ≡ leb n (span (C.passes class) (drop at t.now)) }
 {
-    let mut ended = false;
+    let mut ended: u8 = 0;
     for j in 0..n {
-        ended |= class.ends(t[at + j]);
+        ended |= class.ends(t[at + j]) as u8;
     }
-    !ended
+    ended == 0
 }
 
 // Whether the run of a class from a place on has n bytes, all tested at once.

@@ -1,4 +1,4 @@
--- The blanks of ASCII, which runs of bytes are tested for (`blank` of `byte_runs/specs/Runs`; in code `byte_runs::runs` and `lexer::reading`), are the
+-- The blanks of ASCII, which runs of bytes are tested for (`blank` of `byte_runs/specs/Runs`; in code `byte_runs::classes` and `lexer::reading`), are the
 -- part of the one table of blanks that is ASCII.
 use Rattle.std.specs.Prelude.{ℕ, zero, suc, ◌≤◌, ◌<◌, ◌≡◌, refl, Bool, true, false, not, ◌&&◌, eqb, ltb}
 use Rattle.std.proofs.Common.{sym, subst, arith, ltb-true, ltb-false, ne_eqb}

@@ -96,7 +96,9 @@ fn put_run(run: &[u8], free: &mut [u8])
     requires { length run.now ≤ length free.old }
     ensures { free.new ≡ written run.now free.old }
 {
-    free[..run.len()].copy_from_slice(run);
+    for i in 0..run.len() {
+        free[i] = run[i];
+    }
 }
 
 // Internal. The text of the quoted item `raw` from a place after its opening quote on, written at the start of the free text memory, and

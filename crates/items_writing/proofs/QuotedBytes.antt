@@ -1,11 +1,11 @@
 -- A text in quotes as the loops count and lay it: its opening mark, then a byte at a time, with a backslash where one stands before it.
 use Rattle.std.proofs.Common.{None, Option, Some}
 use Prim.Native.Nat.{ℕ, ◌+◌, ◌-◌, ◌*◌, ◌≤◌, ◌<◌}
-use mathlib.Core.Path.{◌≡◌, refl, sym, ap, ◌∙◌}
+use mathlib.Core.Path.{◌≡◌, refl, sym, ap, subst, ◌∙◌}
 use mathlib.Core.Bool.{Bool, true, false}
 use mathlib.Core.List.{List, [], ◌∷◌, ◌++◌, append_assoc, append-nil}
 use lib.ListN.{length, get_or, take, drop, set, length-append, take-append-drop}
-use lib.Seq.{take-suc, take_all}
+use lib.Seq.{take-suc, take_all, length-take-le}
 use lib.Dec.{eqb}
 use native.Mathlib.Omega.{arith}
 use native.Mathlib.Numerals.{add-one}
@@ -119,6 +119,18 @@ escape_by k (x ∷ t) = by_bool (eqb x (delim_of k))
 pub quoted_by_lem : (k : Quotes) (t : List ℕ) {m : ℕ} → m ≡ delim_of k → quoted k t ≡ quoted_by m t
 unfolding quoted
 quoted_by_lem k t e = rw (e, escape_by k t)
+
+-- ---- a text as it is
+
+module _ (t old : List ℕ) where
+  pub copied_on : {out : List ℕ} (i : ℕ) → out ≡ written (take i t) old → i < length t → length t ≤ length old → set out i (get_or t i 0) ≡ written (take (i + 1) t) old
+  copied_on {out} i e h g =
+      let s : length (take i t) ≡ i = length-take-le i t (omega arith) in
+      rw (e, add-one i, take-suc t i 0 h)
+      (subst (λ (n : ℕ). set (written (take i t) old) n (get_or t i 0) ≡ written (take i t ++ (get_or t i 0 ∷ [])) old) s (written_push (take i t) old (get_or t i 0) (omega arith)))
+
+  pub copied_all : {out : List ℕ} (i : ℕ) → out ≡ written (take i t) old → length t ≤ i → out ≡ written t old
+  copied_all i e h = e ∙ ap (λ (v : List ℕ). written v old) (take_all i t h)
 
 -- ---- a byte or two
 

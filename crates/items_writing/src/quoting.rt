@@ -107,7 +107,9 @@ fn put_plain(t: &[u8], out: &mut [u8]) -> usize
     requires { length t.now ≤ length out.old }
     ensures { (result ≡ length t.now) × (out.new ≡ written t.now out.old) }
 {
-    out[..t.len()].copy_from_slice(t);
+    for i in 0..t.len() {
+        out[i] = t[i];
+    }
     t.len()
 }
 

@@ -21,7 +21,7 @@ fn lent<'a>(source: &'a [u8], text: &'a [u8], origin: u32, start: u32, end: u32)
     }
 }
 
-// That text, or an empty part where the mark is 27.
+// The text of a record, by the same words, or an empty part where the mark is 27.
 pub fn text_of<'a>(source: &'a [u8], text: &'a [u8], origin: u32, start: u32, end: u32) -> &'a [u8]
     ensures { result.now ≡ text_in source.now text.now origin start end }
 {

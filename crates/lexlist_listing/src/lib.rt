@@ -92,7 +92,8 @@ fn list_count<W: Write>(lines: &mut Lines<W>, items: u64) {
     end_line(lines);
 }
 
-// The listing after an answer, whose item is printed.
+// The listing after an answer, whose item is printed. Inlined, so that the state is not copied once more at each call.
+#[inline(always)]
 fn heed<W: Write>(lines: &mut Lines<W>, items: u64, answer: Answer) -> Listing
     ensures { result ≡ heed items answer }
 {

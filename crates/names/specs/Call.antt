@@ -10,7 +10,7 @@ use Rattle.names.specs.declared.Proposal.{Proposal}
 use Rattle.names.specs.declared.Proposal.TheVariants.{Entry, Free, Full}
 
 -- A name's hash: a product hash in 32 bits, four bytes a turn and the last ones one by one. Its top ten bits are the slot at which the
--- search for the name begins, the other 22 its tag. None that is promised rests on its being a good one.
+-- search for the name begins, the other 22 its tag. Nothing that is promised rests on its being a good one.
 abbrev pub factor : ℕ
 factor = 1640531527
 

@@ -20,7 +20,9 @@ fn copy(bytes: &mut [u8], at: usize, name: &[u8])
     requires { at + length name.now ≤ length bytes.old }
     ensures { bytes.new ≡ laid at name.now bytes.old }
 {
-    bytes[at..at + name.len()].copy_from_slice(name);
+    for i in 0..name.len() {
+        bytes[at + i] = name[i];
+    }
 }
 
 // Writes the words of one entry more, of `len` bytes, which the index proposes at a slot under a tag.

@@ -1,5 +1,6 @@
 -- A text memory that holds the mark alone: element by element, and past what a call wrote.
-use Rattle.std.proofs.Common.{◌≡◌, ℕ, zero, suc, ◌+◌, ◌<◌, true, false, ◌&&◌, eqb, List, [], ◌∷◌, length, get_or, drop, replicate, refl, add-one, drop-cons}
+use mathlib.Core.Bool.{Bool}
+use Rattle.std.proofs.Common.{◌≡◌, sym, ℕ, zero, suc, ◌+◌, ◌<◌, true, false, ◌&&◌, eqb, List, [], ◌∷◌, length, get_or, drop, replicate, refl, add-one, drop-cons}
 use Rattle.laws.proofs.Choice.{and_true}
 use Rattle.pieces_cuttings.specs.Inner.{mark, is_unwritten}
 
@@ -10,11 +11,10 @@ module _ (text : List ℕ) (i : ℕ) (h : i < length text) where
   unfolding is_unwritten
   from_here = rw (add-one, drop-cons text i 0 h)
 
-  pub marked_next : eqb (get_or text i 0) mark ≡ true → is_unwritten (drop (i + 1) text) ≡ is_unwritten (drop i text)
-  marked_next e = rw (from_here, e)
-
-  pub marked_not : eqb (get_or text i 0) mark ≡ false → false ≡ is_unwritten (drop i text)
-  marked_not e = rw (from_here, e)
+  -- one byte more is the mark, or is not
+  pub marks_next : (all : Bool) → ((all && eqb (get_or text i 0) mark) && is_unwritten (drop (i + 1) text)) ≡ (all && is_unwritten (drop i text))
+  marks_next true = sym from_here
+  marks_next false = refl
 
 pub marked_none : is_unwritten [] ≡ true
 unfolding is_unwritten

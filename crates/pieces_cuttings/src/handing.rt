@@ -7,7 +7,7 @@ ghost use Rattle.pieces_cuttings.specs.Notes as notes;
 use crate::noting::{note, unread};
 use crate::parts::part;
 use crate::{Cutting, MARK_BYTE, Reading, ReadingAndState};
-use pieces::Answer;
+use pieces::Got;
 use pieces_calls::calls::{end, piece};
 use pieces_calls::opening::open;
 
@@ -17,27 +17,23 @@ const TEXT: usize = 4100;
 // More calls than any reading makes: each loop ends, whatever the calls give.
 const MOST_CALLS: u64 = 1_000_000;
 
-// What a call answered, written down.
+// What a call answered, written down. The state that it answered, which is large, is not handed on.
 fn noted(
     before: Reading,
-    answer: Answer,
+    got: Got,
+    taken: usize,
     text: &[u8],
     records: &mut [u32],
     counts: &mut [usize],
     texts: &mut [u8],
-) -> ReadingAndState
-    requires { Gives answer.got text.now }
-    ensures { notes.standing result records.new counts.new texts.new ≡ record {
-      state = answer.state;
-      notes = notes.note (notes.notes before records.old counts.old texts.old) (what_of answer.got text.now)
-          ((before.taken + answer.taken) % 2 ^ 64);
-    } }
+) -> Reading
+    requires { Gives got text.now }
+    ensures { notes.notes result records.new counts.new texts.new
+        ≡ notes.note (notes.notes before records.old counts.old texts.old) (what_of got text.now)
+        ((before.taken + taken) % 2 ^ 64) }
 {
-    let taken = std::num::wrapping_add_usize(before.taken, answer.taken);
-    ReadingAndState {
-        state: answer.state,
-        reading: note(before, answer.got, taken, text, records, counts, texts),
-    }
+    let all = std::num::wrapping_add_usize(before.taken, taken);
+    note(before, got, all, text, records, counts, texts)
 }
 
 // One piece call: the bytes of the text that were not taken yet, up to a place.
@@ -55,7 +51,19 @@ fn call_piece(
     let mut text = [MARK_BYTE; TEXT];
     let before = stand.reading;
     let answer = piece(stand.state, part(source, before.taken, to), &mut text);
-    noted(before, answer, &text, records, counts, texts)
+    let reading = noted(
+        before,
+        answer.got,
+        answer.taken,
+        &text,
+        records,
+        counts,
+        texts,
+    );
+    ReadingAndState {
+        state: answer.state,
+        reading,
+    }
 }
 
 // One end call.
@@ -70,7 +78,19 @@ fn call_end(
 {
     let mut text = [MARK_BYTE; TEXT];
     let answer = end(stand.state, &mut text);
-    noted(stand.reading, answer, &text, records, counts, texts)
+    let reading = noted(
+        stand.reading,
+        answer.got,
+        answer.taken,
+        &text,
+        records,
+        counts,
+        texts,
+    );
+    ReadingAndState {
+        state: answer.state,
+        reading,
+    }
 }
 
 // Hands over the bytes up to a place, until all of them are taken; an empty piece once.

@@ -1,5 +1,4 @@
 -- The call is that of the definition, and what it gives is written down.
-use Rattle.std.proofs.Common.{refl, ◌∙◌}
 use lib.ListN.{length-replicate}
 use Rattle.pieces_cuttings.specs.Inner.{mark}
 use Rattle.pieces_cuttings.specs.Notes.{room, standing, piece_noted}
@@ -7,13 +6,13 @@ use Rattle.pieces_cuttings.proofs.Sized.{piece_sized}
 use Rattle.pieces_cuttings.proofs.Noted.{call_gives, call_noted}
 use Rattle.pieces_cuttings.proofs.handing.call_piece.Goals as goal
 
-pub noted-requires : goal.noted-requires
-noted-requires c = let p = c.piece-answer in call_gives p.result _ p.ensures.0 (piece_sized _ _ _) p.ensures.1
+pub noted-reading-requires : goal.noted-reading-requires
+noted-reading-requires c = let p = c.piece-answer in call_gives p.result _ p.ensures.0 (piece_sized _ _ _) p.ensures.1
 
 pub returns : goal.returns
 unfolding piece_noted
 returns c =
     let p = c.piece-answer in
     let part = c.part in
-    c.noted.ensures ∙ call_noted p.result _ (rw (part.ensures, length-replicate room mark) at p.ensures.0)
-    (standing c.args.stand c.args.records.now c.args.counts.now c.args.texts.now) refl
+    call_noted p.result _ (rw (part.ensures, length-replicate room mark) at p.ensures.0)
+    (standing c.args.stand c.args.records.now c.args.counts.now c.args.texts.now) c.noted-reading.ensures
